@@ -363,9 +363,15 @@ class TablesFolder(StudyFolder):
     replaces_links = True
 
 
-def write_in_folder(folder: str, files: Mapping[str, Union[str, bytes]], inputs: Sequence[str], tool: str) -> None:
+def write_in_folder(
+    folder: str,
+    files: Mapping[str, Union[str, bytes]],
+    inputs: Sequence[str],
+    tool: str,
+    kind: Type[StudyFolder] = TablesFolder,
+) -> None:
     """Puts a tool's files, by name, into a folder together, in place of those of its run before."""
-    with TablesFolder(folder, inputs, tool) as place:
+    with kind(folder, inputs, tool) as place:
         place.refuse(list(files))
         write_together({os.path.join(place.room, name): content for name, content in files.items()})
         with heard_later():

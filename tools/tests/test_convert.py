@@ -17,6 +17,7 @@ import other_forms
 from tool import EXAMPLES, PROGRAM, run
 
 from hulltools.cases import read_case
+from hulltools.study_folder import SUMS
 from hulltools.tables import as_it_was, told_apart
 
 
@@ -71,7 +72,7 @@ class Csv(WithRoom):
         self.convert(f"{EXAMPLES}/csv", f"{self.room}/case.json")
         self.assertEqual(read_case(f"{self.room}/case.json"), read_case(f"{EXAMPLES}/evening/case.json"))
         self.convert(f"{EXAMPLES}/evening/case.json", f"{self.room}/csv")
-        for file in os.listdir(f"{self.room}/csv"):
+        for file in set(os.listdir(f"{self.room}/csv")) - {SUMS}:
             self.assertEqual(self.read(f"{self.room}/csv/{file}"), self.read(f"{EXAMPLES}/csv/{file}"))
 
     def test_names_and_numbers_stay_as_they_are(self) -> None:
@@ -89,7 +90,7 @@ class Csv(WithRoom):
     def test_what_a_spreadsheet_writes_is_read(self) -> None:
         """A byte order mark, carriage returns, empty rows and columns; semicolons with decimal commas."""
         folder = self.folder()
-        for file in os.listdir(folder):
+        for file in set(os.listdir(folder)) - {SUMS}:
             text = self.read(f"{folder}/{file}").replace(",", ";").replace(".", ",").replace("\n", ";\r\n") + ";;;\r\n"
             with open(f"{folder}/{file}", "w", encoding="utf-8-sig", newline="") as table:
                 table.write(text)
@@ -155,19 +156,19 @@ class Csv(WithRoom):
         self.assertIn("would be replaced", self.convert(folder, folder, status=1)[1])
         self.assertEqual(self.read(f"{folder}/units.csv"), before)
 
-    def test_a_link_in_the_folder_is_replaced_and_what_it_leads_to_stays(self) -> None:
+    def test_a_link_in_the_folder_is_refused_and_what_it_leads_to_stays(self) -> None:
         precious, folder = self.write("precious", "mine\n"), f"{self.room}/linked"
         os.makedirs(folder)
-        for name in ("units.csv", "offers.csv", "hours.csv"):
-            os.symlink("../precious", f"{folder}/{name}")
         os.symlink("linked", f"{self.room}/link")
-        self.convert(f"{EXAMPLES}/usual/case.json", f"{self.room}/link")
+        for name, to in (("offers.csv", "../precious"), ("bids.csv", "nowhere")):
+            os.symlink(to, f"{folder}/{name}")
+            told = self.convert(f"{EXAMPLES}/usual/case.json", f"{self.room}/link", status=2)[1]
+            self.assertEqual((told.count("\n"), os.listdir(folder)), (1, [name]))
+            self.assertIn(f"linked/{name}: no convert.py here made this, so it stays", told)
+            os.remove(f"{folder}/{name}")
         self.assertEqual(self.read(precious), "mine\n")
-        self.assertEqual([it for it in os.listdir(folder) if os.path.islink(f"{folder}/{it}")], [])
+        self.convert(f"{EXAMPLES}/usual/case.json", f"{self.room}/link")
         self.assertIn("G1,8.0,800.0", self.read(f"{folder}/offers.csv"))
-        os.symlink("nowhere", f"{folder}/bids.csv")
-        told = self.convert(f"{EXAMPLES}/usual/case.json", folder, status=1)[1]
-        self.assertIn("linked/bids.csv: it is there, and this case has no such file", told)
 
     def test_the_case_and_what_is_left_out_need_a_file_each(self) -> None:
         case = f"{EXAMPLES}/usual/case.json"

@@ -206,6 +206,45 @@ class Tables(InFolder):
         self.assertEqual((read(f"{self.folder}/units"), read(f"{self.folder}/link")), ("precious", "1"))
 
 
+class Cases(InFolder):
+    """What convert.py writes to a folder."""
+
+    def convert(self, case: str = CASE, *words: str) -> tuple[int, str]:
+        status, _, said = run("convert.py", case, self.folder, *words)
+        return status, said
+
+    def stays(self, why: str, case: str = CASE) -> None:
+        """That the folder is refused, and nothing is written."""
+        before, left = self.all(), f"{self.room}/left.json"
+        status, said = self.convert(case, "--left-out", left)
+        self.assertEqual((status, said.count("\n"), self.all(), os.path.exists(left)), (2, 1, before, False), said)
+        self.assertIn(why, said)
+
+    def test_files_of_others_stay(self) -> None:
+        for name in ("units.csv", "bids.csv", SUMS, MARK):
+            shutil.rmtree(self.folder, ignore_errors=True)
+            self.made(**{name: "mine"})
+            self.stays(f"folder/{name}: no convert.py here made this, so it stays")
+        shutil.rmtree(self.folder)
+        self.study(**{"units.csv": "1"})
+        self.stays("folder/units.csv: no convert.py here made this, so it stays")
+
+    def test_hand_edits_stay(self) -> None:
+        evening = f"{EXAMPLES}/evening/case.json"
+        self.assertEqual(self.convert(evening)[0], 0)
+        self.made(**{"bids.csv": self.all()["bids.csv"] + "\n"})
+        for case in (evening, CASE):
+            self.stays("folder/bids.csv: it was changed since a run of convert.py wrote it, so it stays", case)
+
+    def test_files_of_the_run_before_are_replaced(self) -> None:
+        self.made(notes="mine")
+        self.assertEqual(self.convert(f"{EXAMPLES}/evening/case.json")[0], 0)
+        self.assertIn("bids.csv", self.all())
+        self.assertEqual(self.convert()[0], 0)
+        names = [SUMS, "hours.csv", "notes", "offers.csv", "renewables.csv", "starts.csv", "units.csv"]
+        self.assertEqual(sorted(self.all()), names)
+
+
 class Done(InFolder):
     """Marks of what is done."""
 
@@ -336,8 +375,9 @@ class Words(Room):
         due = ": this is to be two of the files that are written\n"
         for words in ([both, "--left-out", both], [both, "--left-out", f"{self.room}/link"]):
             self.assertEqual(run("convert.py", CASE, *words), (1, "", f"convert.py: {os.path.realpath(words[2])}{due}"))
-        words = [folder, "--left-out", f"{folder}/units.csv"]
-        self.assertEqual(run("convert.py", CASE, *words), (1, "", f"convert.py: {words[2]}{due}"))
+        for name in ("units.csv", SUMS):
+            words = [folder, "--left-out", f"{folder}/{name}"]
+            self.assertEqual(run("convert.py", CASE, *words), (1, "", f"convert.py: {words[2]}{due}"))
         python = python_with("scipy.optimize._milp")
         if python:
             words = [CASE, both, "--follow", SCHEDULE, "--deviations", both, "--hull", "/nowhere/hull"]

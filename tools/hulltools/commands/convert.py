@@ -4,11 +4,13 @@ usage: convert.py FROM TO [--from FORM] [--left-out FILE]
 
   FROM             a case of hull; a folder of CSV files (docs/CSV.md); an instance of UnitCommitment.jl, plain or .json.gz; ModelData of
                    EGRET as JSON; or a folder that PyPSA's export_to_csv_folder wrote
-  TO               a file that ends in .json gets a case of hull; any other name is a folder that gets CSV files
+  TO               a file that ends in .json gets a case of hull; any other name is a folder that gets CSV files, together, with
+                   files.sha256, which has their sums; what this tool wrote there before is replaced
   --from FORM      hull, csv, unit-commitment-jl, egret or pypsa; told by what FROM holds if left out
   --left-out FILE  gets as JSON what was left out, assumed or changed; standard output has it in words in any case
 
 Nothing is left out without a line. Nothing is written where hull would refuse the case: its first 20 faults are told.
+A CSV file in TO that this tool didn't make, or that was changed since, is refused with status 2, and so is a link there.
 docs/CSV.md says what is read of each form. It needs neither the program nor SciPy.
 """
 import json
@@ -18,7 +20,7 @@ from typing import Callable, List, Optional, Sequence
 
 from ..converters import FORMS, Notes, form_of, read_form
 from ..converters.case_texts import case_text
-from ..converters.csv_folder import marked_count, names_of_files, write_csv
+from ..converters.csv_folder import TOOL, marked_count, names_of_files, refuse_files, write_csv
 from ..converters.notes import Object
 from ..errors import HullError, need_output, refuse_inputs, refuse_twice, run_tool, write_whole
 from ..lint import Review, look
@@ -53,15 +55,16 @@ def inputs_of(name: str) -> List[str]:
 
 
 def body(words: Sequence[str], tell: Callable[[str], None]) -> int:
-    ask = asker("convert.py", __doc__)
+    ask = asker(TOOL, __doc__)
     for option in ("from_name", "to"):
         ask.add_argument(option)
     ask.add_argument("--from", dest="form", choices=FORMS)
     ask.add_argument("--left-out")
     given = ask.parse_args(words)
     need_output()
-    for name in [given.to] if given.to.endswith(".json") else names_of_files(given.to):
-        refuse_twice([name, given.left_out])  # (each alone, since links in a folder are replaced)
+    is_file = given.to.endswith(".json")
+    for name in [given.to] if is_file else names_of_files(given.to):
+        refuse_twice([name, given.left_out])  # (each alone, since links in a folder are refused)
     notes = Notes()
     case = read_form(given.from_name, notes, given.form or form_of(given.from_name))
     text, inputs = case_text(case), inputs_of(given.from_name)
@@ -69,9 +72,11 @@ def body(words: Sequence[str], tell: Callable[[str], None]) -> int:
     refuse_faults(review, given.from_name)
     for name in (given.to, given.left_out):
         refuse_inputs(name, inputs) if name else None
+    if not is_file:
+        refuse_files(given.to, inputs)
     if given.left_out:
         write_whole(given.left_out, json.dumps(notes.as_json(), ensure_ascii=False, indent=1) + "\n", inputs)
-    if given.to.endswith(".json"):
+    if is_file:
         write_whole(given.to, text, inputs)
     else:
         write_csv(given.to, case, inputs)
@@ -91,4 +96,4 @@ def tell_oddities(to: str, case: Object, review: Review, tell: Callable[[str], N
 
 
 def main(words: Optional[Sequence[str]] = None) -> int:
-    return int(run_tool("convert.py", body, words))
+    return int(run_tool(TOOL, body, words))

@@ -7,8 +7,9 @@ import os
 import re
 from typing import Dict, Iterable, Iterator, List, Optional, Tuple
 
-from ..errors import HullError, one_line, read_bytes, rows_told_with, write_together
+from ..errors import HullError, one_line, read_bytes, rows_told_with
 from ..named_files import Written
+from ..study_folder import MARK, SUMS, StudyFolder, write_in_folder
 from ..tables import FORMULA, as_it_was, told_apart
 from .case_texts import LIMITS, number_text
 from .notes import Notes, Object
@@ -22,6 +23,7 @@ COLUMNS: Dict[str, List[str]] = {
     "bids.csv": ["bid", "period", "mw", "price"],
     "windows.csv": ["unit", "period", "commitment"],
 }
+TOOL = "convert.py"
 NEEDED = ("units.csv", "offers.csv", "hours.csv")
 NUMBER = re.compile(r"-?(0|[1-9][0-9]*)(\.[0-9]+)?([eE][-+]?[0-9]+)?")
 
@@ -217,18 +219,16 @@ def marked_count(case: Object) -> int:
 
 
 def names_of_files(folder: str) -> List[str]:
-    """All files that a case may have in the folder, whose own links are followed; those within it aren't."""
-    return [os.path.join(os.path.realpath(folder), file) for file in COLUMNS]
+    """All files that may be written to the folder, whose own links are followed; those within it aren't."""
+    return [os.path.join(os.path.realpath(folder), file) for file in (*COLUMNS, MARK, SUMS)]
+
+
+def refuse_files(folder: str, inputs: List[str]) -> None:
+    """Refuses a folder with a file that a case may have, where it isn't as this tool left it."""
+    StudyFolder(folder, inputs, TOOL).refuse(list(COLUMNS))
 
 
 def write_csv(folder: str, case: Object, inputs: List[str]) -> None:
-    """Writes the files. What is in the folder may be somebody else's: a link there is replaced, and not followed."""
-    texts = csv_texts(case)
-    for file in COLUMNS:
-        if file not in texts and os.path.lexists(os.path.join(folder, file)):
-            raise HullError(
-                f"{os.path.join(folder, file)}: it is there, and this case has no such file: use another folder"
-            )
+    """Writes the files in place of those that this tool wrote there before."""
     os.makedirs(folder, exist_ok=True)
-    files = {name: texts[os.path.basename(name)] for name in names_of_files(folder) if os.path.basename(name) in texts}
-    write_together({**files}, inputs, follow_links=False)
+    write_in_folder(folder, csv_texts(case), inputs, TOOL, StudyFolder)
