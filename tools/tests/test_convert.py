@@ -476,6 +476,42 @@ class Others(WithRoom):
                     told = self.convert(f"{self.room}/net", f"{self.room}/case.json", status=1)[1]
                     self.assertEqual(told, f'convert.py: generator "g1", {key}: {due}\n')
 
+    def test_cells_of_pypsa_over_time_that_have_no_number(self) -> None:
+        hour = "2026-11-30 05:00:00"
+        for file, column in (("loads-p_set.csv", "L1"), ("generators-p_max_pu.csv", "WIND1")):
+            for cell, due in (("", "nothing"), ("nan", "nan"), (" None ", "None")):
+                folder = tempfile.mkdtemp(dir=self.room)
+                other_forms.pypsa(f"{folder}/net")
+                rows = [it.split(",") for it in self.read(f"{folder}/net/{file}").splitlines()]
+                rows[6][1] = cell
+                self.write(f"{os.path.basename(folder)}/net/{file}", "\n".join(map(",".join, rows)))
+                told = self.convert(f"{folder}/net", f"{self.room}/case.json", status=1)[1]
+                self.assertIn(f"/{file}, row {hour}, column {column}: {due} is there, and a number is due\n", told)
+
+    def test_tables_of_pypsa_over_time_are_matched_by_snapshot(self) -> None:
+        self.network("loads-p_set.csv")
+        due = self.read(f"{self.room}/case.json")
+        rows = sorted(f"2026-11-30 {t:02}:00:00,{power}\r\n" for t, power in enumerate(market.case()["demand"]))
+        self.network("loads-p_set.csv", ("".join(rows), "".join(reversed(rows))))
+        self.assertEqual(self.read(f"{self.room}/case.json"), due)
+        for old, new, why in (
+            ("2026-11-30 05", "1999-11-30 05", "snapshots.csv has no snapshot 1999-11-30 05:00:00"),
+            (rows[5], "", "it has no row of the snapshot 2026-11-30 05:00:00"),
+            ("".join(rows), "", "it has no row of the snapshot 2026-11-30 00:00:00"),
+        ):
+            told = self.network("loads-p_set.csv", (old, new), status=1)[1]
+            self.assertIn(f"loads-p_set.csv: {why}\n", told)
+
+    def test_times_of_pypsa_that_are_not_whole_are_told(self) -> None:
+        os.mkdir(f"{self.room}/net")
+        self.write("net/snapshots.csv", "snapshot,objective\n0,1\n1,1\n")
+        self.write("net/loads.csv", "name,bus,p_set\nl,b,5\n")
+        head = "name,bus,p_nom,committable,min_up_time,min_down_time\n"
+        self.write("net/generators.csv", f"{head}g,b,10,True,2.7,1.5\nh,b,10,True,2.0,1\n")
+        told = self.convert(f"{self.room}/net", f"{self.room}/case.json")[0]
+        for key in ("min_up_time", "min_down_time"):
+            self.assertIn(f"changed: {key} that isn't whole is cut to a whole number of snapshots (1: g)\n", told)
+
     def test_a_polynomial_from_no_power_on(self) -> None:
         model = changed_model()
         unit = model["elements"]["generator"]["GT6"]

@@ -180,7 +180,7 @@ class Follow(unittest.TestCase):
         other_forms.pypsa(folder)
         self.assertEqual(run("convert.py", folder, f"{self.room}/pypsa.json")[0], 0)
         powers = {**{name: it["power"] for name, it in plan["thermal"].items()}, **plan["renewable"]}
-        hours = [str(it) for it in range(24)]
+        hours = [f"2026-11-30 {it:02}:00:00" for it in range(24)]
         rows = [[hour, *(row[t] for row in powers.values())] for t, hour in enumerate(hours)]
         other_forms.write_table(f"{folder}/generators-p.csv", [["snapshot", *powers], *rows])
         states = {name: it["on"] for name, it in plan["thermal"].items()}
@@ -232,7 +232,7 @@ class Follow(unittest.TestCase):
     def test_a_network_whose_powers_are_no_numbers(self) -> None:
         other_forms.pypsa(f"{self.room}/network")
         for damaged in ("x", "nan", "1e399", "1000001"):
-            rows = [["snapshot", "CCGT3"], *([str(hour), damaged] for hour in range(24))]
+            rows = [["snapshot", "CCGT3"], *([f"2026-11-30 {hour:02}:00:00", damaged] for hour in range(24))]
             other_forms.write_table(f"{self.room}/network/generators-p.csv", rows)
             status, said = self.follow("network")
             due = "make_schedule.py: network: CCGT3: a number of at most 1,000,000 is due\n"

@@ -97,14 +97,25 @@ class Network:
         self.hours = self.weight()
 
     def columns(self, file: str) -> Dict[str, List[str]]:
-        """The columns of a table over the snapshots, by name."""
-        found = table(self.folder, file)
-        if found and len(found) != self.periods:
-            raise HullError(
-                f"{os.path.join(self.folder, file)}: {len(found)} rows, and snapshots.csv has {self.periods}"
-            )
+        """The columns of a table over the snapshots, by name; its rows may stand in another order than those of snapshots.csv."""
+        found, place = table(self.folder, file), os.path.join(self.folder, file)
+        odd = sorted(found.keys() ^ self.snapshots.keys())
+        if odd and os.path.exists(place):
+            what = "snapshots.csv has no snapshot" if odd[0] in found else "it has no row of the snapshot"
+            raise HullError(f"{place}: {what} {one_line(odd[0])}")
         names: Dict[str, str] = next(iter(found.values()), {})
-        return {name: [row[name] for row in found.values()] for name in names}
+        return {name: [found[it][name] for it in self.snapshots] for name in names}
+
+    def numbers(self, file: str, name: str, texts: List[str], what: str) -> List[Decimal]:
+        """The numbers of a column over the snapshots; a cell without one is refused."""
+        found = []
+        for snapshot, text in zip(self.snapshots, texts):
+            value = number(text, what)
+            if value is None:
+                place = f"{os.path.join(self.folder, file)}, row {one_line(snapshot)}, column {one_line(name)}"
+                raise HullError(f"{place}: {one_line(text.strip()) or 'nothing'} is there, and a number is due")
+            found.append(value)
+        return found
 
     def weight(self) -> Fraction:
         """How many hours a snapshot counts for in the costs."""
@@ -136,25 +147,30 @@ class Network:
             if row.get("active", "") and not is_true(row["active"]):
                 self.notes.left_out("loads that aren't active", name)
                 continue
-            texts = varying.get(name, [row.get("p_set", "0")] * self.periods)
+            what = f'load "{name}", p_set'
+            if name in varying:
+                powers = self.numbers("loads-p_set.csv", name, varying[name], what)
+            else:
+                powers = [number(row.get("p_set", "0"), what) or Decimal(0)] * self.periods
             sign = number(row.get("sign", "-1"), f'load "{name}", sign')
-            for t, text in enumerate(texts):
-                total[t] += (number(text, f'load "{name}", p_set') or Decimal(0)) * (
-                    1 if sign is None or sign < 0 else -1
-                )
+            for t, power in enumerate(powers):
+                total[t] += power * (1 if sign is None or sign < 0 else -1)
         lists_out_negative(total, "loads")
         return total
 
     def series(self, name: str, key: str, default: str) -> List[Decimal]:
-        row = self.generators[name].get(key, "") or default
-        texts = self.varying.get(key, {}).get(name, [row] * self.periods)
-        return [number(it, f'generator "{name}", {key}') or Decimal(0) for it in texts]
+        what, varying = f'generator "{name}", {key}', self.varying[key]
+        if name in varying:
+            return self.numbers(f"generators-{key}.csv", name, varying[name], what)
+        return [number(self.generators[name].get(key, "") or default, what) or Decimal(0)] * self.periods
 
     def value(self, name: str, key: str) -> Optional[Decimal]:
         return number(self.generators[name].get(key, ""), f'generator "{name}", {key}')
 
     def whole(self, name: str, key: str, default: int) -> int:
         found = self.value(name, key)
+        if found is not None and found != int(found):
+            self.notes.changed(f"{key} that isn't whole is cut to a whole number of snapshots", name)
         return default if found is None else int(found)
 
     def add_unit(self, case: Object, name: str) -> None:
@@ -201,7 +217,7 @@ class Network:
 
         committable = is_true(row.get("committable", ""))
         on = self.whole(name, "up_time_before", 1) if committable else 1
-        off = self.whole(name, "down_time_before", 0)
+        off, min_off = (self.whole(name, key, 0) for key in ("down_time_before", "min_down_time"))
         if not committable:
             self.notes.changed(
                 "generators that aren't committable and have a cost run in all periods, from p_min_pu on", name
@@ -223,12 +239,12 @@ class Network:
             "ramp_startup_limit": ramp("ramp_limit_start_up"),
             "ramp_shutdown_limit": ramp("ramp_limit_shut_down"),
             "time_up_minimum": self.whole(name, "min_up_time", 0),
-            "time_down_minimum": self.whole(name, "min_down_time", 0),
+            "time_down_minimum": min_off,
             "power_output_t0": power,
             "unit_on_t0": int(on > 0),
             "time_up_t0": on,
             "time_down_t0": 0 if on else max(1, off),
-            "startup": [{"lag": max(1, self.whole(name, "min_down_time", 0)), "cost": start}] if start else [],
+            "startup": [{"lag": max(1, min_off), "cost": start}] if start else [],
             "piecewise_production": self.curve(name, least, most, cost),
         }
 
