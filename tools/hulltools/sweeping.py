@@ -12,6 +12,7 @@ from typing import Callable, Dict, List, Tuple
 from .cases import Case
 from .charts import ticks
 from .errors import HullError
+from .tables import as_it_was, told_apart
 
 COLOURS = ("#1763c7", "#5b6570", "#b85c00", "#7a3fb0", "#b3261e", "#2c7a4b")
 WIDTH, LEFT, BAR, GAP, TOP = 760, 190, 11, 14, 46
@@ -79,7 +80,7 @@ def scenarios_of(demand: List[str], wind: List[str], offers: List[str], outages:
 
 
 def joined(tables: Dict[str, str]) -> str:
-    """Tables of studies as one, with the scenario in the first column."""
+    """Tables of studies as one, with the scenario in the first column, whose name is marked as theirs are."""
     into = io.StringIO()
     writer, head = csv.writer(into), None
     for name, text in tables.items():
@@ -89,7 +90,7 @@ def joined(tables: Dict[str, str]) -> str:
             writer.writerow(["scenario", *head])
         if rows[0] != head:
             raise HullError(f"the table of {name} has other columns than those before it")
-        writer.writerows([name, *row] for row in rows[1:])
+        writer.writerows([told_apart(name), *row] for row in rows[1:])
     return into.getvalue()
 
 
@@ -98,7 +99,7 @@ def uplifts(text: str) -> List[Tuple[str, str, float]]:
     found = []
     for row in csv.DictReader(io.StringIO(text)):
         parts = [it for key, it in row.items() if key.startswith(("gap_duality", "gap_prices"))]
-        found.append((row["scenario"], row["list"], sum(float(it or 0) for it in parts)))
+        found.append((as_it_was(row["scenario"]), row["list"], sum(float(it or 0) for it in parts)))
     return found
 
 

@@ -21,7 +21,7 @@ from hulltools import done_marks, errors, studies, study_folder
 from hulltools.commands import study as study_command
 from hulltools.errors import HullError, NotOurs
 from hulltools.study_folder import HEAD, LOCK, MARK, ROOM, SUMS, StudyFolder
-from hulltools.sweeping import scenarios_of
+from hulltools.sweeping import joined, scenarios_of, uplifts
 
 CASE, SCHEDULE = f"{EXAMPLES}/usual/case.json", f"{EXAMPLES}/usual/schedule.json"
 REPORT = f"{EXAMPLES}/usual/price.output"
@@ -333,6 +333,12 @@ class Sweeps(InFolder):
         self.assertIn("outage_COAL", keys)
         self.assertIn("offer_A_B_+1", keys)
         self.assertEqual(found[-2].name, "outage 5%")
+
+    def test_names_that_a_spreadsheet_evaluates_are_marked(self) -> None:
+        for name, marked in (("offer G1;=A1 +1%", "offer G1;'=A1 +1%"), ("offer G1 +1%", "offer G1 +1%")):
+            text = joined({name: "list,gap_duality\nLMP,1\n"})
+            self.assertEqual(text, f"scenario,list,gap_duality\r\n{marked},LMP,1\r\n")
+            self.assertEqual(uplifts(text), [(name, "LMP", 1.0)])
 
 
 class Words(Room):
