@@ -168,7 +168,11 @@ class Csv(WithRoom):
             os.remove(f"{folder}/{name}")
         self.assertEqual(self.read(precious), "mine\n")
         self.convert(f"{EXAMPLES}/usual/case.json", f"{self.room}/link")
+        os.remove(f"{folder}/offers.csv")
+        os.symlink("../precious", f"{folder}/offers.csv")  # (in place of its own file)
+        self.convert(f"{EXAMPLES}/usual/case.json", folder)
         self.assertIn("G1,8.0,800.0", self.read(f"{folder}/offers.csv"))
+        self.assertEqual(self.read(precious), "mine\n")
 
     def test_the_case_and_what_is_left_out_need_a_file_each(self) -> None:
         case = f"{EXAMPLES}/usual/case.json"

@@ -10,7 +10,8 @@ usage: convert.py FROM TO [--from FORM] [--left-out FILE]
   --left-out FILE  gets as JSON what was left out, assumed or changed; standard output has it in words in any case
 
 Nothing is left out without a line. Nothing is written where hull would refuse the case: its first 20 faults are told.
-A CSV file in TO that this tool didn't make, or that was changed since, is refused with status 2, and so is a link there.
+A CSV file in TO that this tool didn't make, or that was changed since, is refused with status 2, and so is a link
+that stands in place of no file of its own.
 docs/CSV.md says what is read of each form. It needs neither the program nor SciPy.
 """
 import json
