@@ -373,7 +373,7 @@ class Studies(Room):
         self.assertEqual(self.names(), before)
 
     def test_a_case_that_is_changed_meanwhile_is_refused(self) -> None:
-        shutil.copy(f"{DEAR}/case.json", f"{self.room}/case.json")
+        shutil.copyfile(f"{DEAR}/case.json", f"{self.room}/case.json")
         hull = f"{self.room}/changing.sh"
         write(hull, f'#!/bin/sh\n[ "$1" != settle ] || echo >>{self.room}/case.json\nexec {PROGRAM} "$@"\n')
         os.chmod(hull, 0o755)
