@@ -21,8 +21,8 @@ from multiprocessing.connection import Connection
 from typing import Any, Callable, Optional, TypeVar, cast
 
 from .errors import HullError, begun, told_with
+from .options import seconds_option
 from .progress import pass_steps_on, step, turn_to
-from .search_limits import refuse_seconds
 
 GRACE = 2.0  # seconds that the work has to end by itself, and to say what it has, once its time is over
 START = 120.0  # seconds that a Python may take until it is at work
@@ -94,7 +94,7 @@ def run_apart(
     work: Callable[..., Found], given: tuple[object, ...], what: str, seconds: Optional[float] = None
 ) -> Found:
     """What a function of this package returns or raises; OverTime where it takes longer, by two seconds, than it may."""
-    refuse_seconds(seconds)
+    seconds = seconds_option(seconds)
     with step(what):
         reader, writer = Pipe(duplex=False)
         with reader, worker_with(writer) as worker:

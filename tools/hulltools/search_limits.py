@@ -2,16 +2,9 @@
 from dataclasses import dataclass
 from typing import Optional
 
-from .options import MOST_SECONDS, number_option
 
 SECONDS = 1800.0  # how long a step of a solver may take where nobody says
 MOST_NODES = 2**31 - 1  # (the solver's)
-
-
-def refuse_seconds(seconds: Optional[float]) -> None:
-    """Refuses a limit of time that the system doesn't keep."""
-    if seconds is not None:
-        number_option("seconds", seconds, 0, MOST_SECONDS)
 
 
 @dataclass
