@@ -4,9 +4,9 @@ use Rattle.answer_workers.proofs.Common.{subst, append_assoc, arith, All, Contai
 use Rattle.answer_workers.proofs.Common.{NamedThermalUnit, NamedRenewableUnit, NamedBidUnit}
 use Rattle.answer_workers.proofs.Common.{units, IsBenchFor}
 use Rattle.answer_workers.proofs.Common.{Bench, Suffices, IsBenchOf, length, All-nil, All-cons}
-use Rattle.unit_program.specs.Benches.{BenchesServeLess}
+use Rattle.unit_program.specs.Benches.{BenchSufficesForFewerPeriods}
 
-module _ (less : BenchesServeLess) (periods : ℕ) (b : Bench) where
+module _ (less : BenchSufficesForFewerPeriods) (periods : ℕ) (b : Bench) where
   abbrev Serves : AnyUnit → Type 0
   Serves u = Suffices periods u b
 
@@ -30,7 +30,8 @@ module _ (less : BenchesServeLess) (periods : ℕ) (b : Bench) where
       (thermals points ts rest made (λ k d inside. few (suc k) d (omega (arith, inside))) h)
 
 -- a bench for the most points of a case's thermal units is the case's
-pub bench_of_case : BenchesServeLess → (m : Market) (points : ℕ) (b : Bench) → IsBenchFor m.periods points b →
+pub bench_of_case : BenchSufficesForFewerPeriods → (m : Market) (points : ℕ) (b : Bench) → IsBenchFor m.periods points
+    b →
     All (λ (n : NamedThermalUnit). length n.unit.points ≤ points) m.thermal → IsBenchOf m b
 bench_of_case less m points b made few =
     let ts = map (λ (n : NamedThermalUnit). Thermal n.unit) m.thermal in

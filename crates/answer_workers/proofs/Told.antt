@@ -3,7 +3,7 @@ use Rattle.answer_workers.proofs.Common.{◌≡◌, ℕ, refl, sym, ap, ◌∙�
 use Rattle.answer_workers.proofs.Common.{Halted, GivenTask, NotYet, view_of, Called, View, content, Market, units}
 use Rattle.answer_workers.proofs.Common.{task_unit, IsFeasible, Task, Contains, slice_get_within, get_or_from_slice_get}
 use Rattle.answer_workers.proofs.Common.{IsTold, IsAnswerable, market_at, Worker}
-use Rattle.board_store.specs.Laws.{ClaimsMean}
+use Rattle.board_store.specs.Laws.{ClaimAnswersTellBoardState}
 use Rattle.board_core.specs.Replies.{claim_of}
 use Rattle.board_core.specs.Tasks.{IsOwnTask, LeavesTask}
 use Rattle.board_core.specs.declared.replies.Claim.{Claim}
@@ -54,7 +54,8 @@ ready r before after v w c given =
     let own = given_task b (claim_answer b) before w.task (sym given ∙ c.answered.0) c.answered.1 in
     answerable (market_at w.seat) b own.0 own.1 w.task (sym (ap (λ (x : View). x.setup.market) c.seen)) own.2
 
-pub told : ClaimsMean → (r : Claim) (before : Task) (after : Content → Content) (v : View) (w : Worker) →
+pub told : ClaimAnswersTellBoardState → (r : Claim) (before : Task) (after : Content → Content) (v : View) (w : Worker)
+    →
     Called (Tells r before w.task) after v (view_of w.seat)
     → UnlessGiven r (r ≡ claim_of (claim_answer (content (view_of w.seat).setup (view_of w.seat).seen))) → IsTold r w
 told mean claim.Finished before after v w c at =

@@ -5,7 +5,7 @@ ghost use Rattle.answer_workers.specs.Workers.{IsWorkerOf, HasWorked, HaveWorked
 
 use crate::gate::Gate;
 use crate::visit::{Call, Crew, Lookout};
-use crate::work::work_to_the_end;
+use crate::work::answer_tasks_until_board_ends;
 use crate::worker::{Ended, Worker};
 use board_share::SharedBoard;
 use std::sync::{Mutex, Wait};
@@ -19,7 +19,7 @@ const START_MICROSECONDS: u64 = 20;
 // Sleeps for a moment where there are several workers. A system may queue a new thread on the
 // processor of the one that started it, which works on; a thread that wakes up may be put on a
 // processor that has nothing to do.
-fn sleep_among_workers<R: Wait>(rt: &R, crew: &Crew) {
+fn sleep_before_first_claim<R: Wait>(rt: &R, crew: &Crew) {
     if crew.workers > 1 {
         Parker::new().park_timeout(rt, Duration::from_micros(START_MICROSECONDS));
     }
@@ -35,8 +35,8 @@ fn run_worker<R: Wait, G: Gate>(
     requires { IsWorkerOf board.now worker.old }
     ensures { HasWorked worker.old worker.new }
 {
-    sleep_among_workers(rt, crew);
-    let _ = work_to_the_end(rt, board, crew, worker, gate);
+    sleep_before_first_claim(rt, crew);
+    let _ = answer_tasks_until_board_ends(rt, board, crew, worker, gate);
 }
 
 // Lets each worker work, in a thread of its own where one can be started.
@@ -64,7 +64,7 @@ fn run_each_worker<R: Threads + Wait + Sync, G: Gate>(
 
 // Asks each worker once more, one after another, and says how they ended: there is nothing left to
 // do, but the threads that worked handed back no answer.
-fn end_each_worker<R: Wait, G: Gate>(
+fn find_how_workers_ended<R: Wait, G: Gate>(
     rt: &R,
     board: &SharedBoard,
     crew: &Crew,
@@ -77,7 +77,7 @@ fn end_each_worker<R: Wait, G: Gate>(
     ensures ended { HaveEnded result workers.new }
 {
     for k in 0..workers.len() {
-        match work_to_the_end(rt, board, crew, &mut workers[k], gate) {
+        match answer_tasks_until_board_ends(rt, board, crew, &mut workers[k], gate) {
             Ended::Finished => {}
             Ended::Halted => return Ended::Halted,
         }
@@ -112,5 +112,5 @@ pub fn answer_all<R: Threads + Wait + Sync, G: Gate>(
         workers: workers.len(),
     };
     run_each_worker(rt, board, &crew, workers, gate);
-    end_each_worker(rt, board, &crew, workers, gate)
+    find_how_workers_ended(rt, board, &crew, workers, gate)
 }

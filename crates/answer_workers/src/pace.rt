@@ -15,7 +15,7 @@ pub struct Pace {
 impl Pace {
     /// Whether a worker has its share that holds so many tasks, the last of them of that unit: one
     /// task where there is no other worker, since it then waits for none.
-    pub fn is_share(&mut self, held: usize, unit: u32) -> bool {
+    pub fn has_worker_enough_tasks(&mut self, held: usize, unit: u32) -> bool {
         let unit = unit as usize;
         self.last = self.last.max(unit);
         let left = self.last - unit;

@@ -8,7 +8,7 @@ ghost use Rattle.answer_workers.specs.Answers.{HasSchedule};
 
 use uc_model::cases::{Task, UnitRef};
 use uc_model::units::{Answered, UnitKind};
-use unit_program::{Bench, LastAnswers, answer_unit};
+use unit_program::{Bench, LastAnswers, write_best_response_of_unit};
 
 // The unit that a task is for.
 fn unit_of_task(task: &Task) -> UnitRef<'_>
@@ -36,5 +36,5 @@ pub fn answer_task(bench: &mut Bench, last: &LastAnswers, task: &Task, into: &mu
         → Suffices periods u bench.new }
 {
     let unit = unit_of_task(task);
-    answer_unit(bench, last, task.unit, unit, &task.prices, into);
+    write_best_response_of_unit(bench, last, task.unit, unit, &task.prices, into);
 }

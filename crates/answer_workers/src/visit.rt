@@ -7,7 +7,7 @@ use crate::pace::Pace;
 use crate::worker::{MOST_HELD, Worker};
 use board_core::Claim;
 use board_share::SharedBoard;
-use board_store::laws::claims_mean;
+use board_store::laws::claim_answers_tell_board_state;
 use std::mem::swap;
 use std::sync::{Mutex, MutexGuard, Wait};
 use std::thread;
@@ -67,12 +67,12 @@ fn claim_task<R: Wait>(rt: &R, board: &SharedBoard, worker: &mut Worker) -> Clai
     ensures held { worker.new.held.items ≡ worker.old.held.items }
     ensures told { IsTold result worker.new }
 {
-    claims_mean();
+    claim_answers_tell_board_state();
     board.claim(rt, &mut worker.seat, &mut worker.task)
 }
 
 // Claims until the worker has its share, or a claim gives nothing.
-fn claim_share<R: Wait>(
+fn claim_share_of_tasks<R: Wait>(
     rt: &R,
     board: &SharedBoard,
     worker: &mut Worker,
@@ -88,9 +88,9 @@ fn claim_share<R: Wait>(
         let Claim::Given = end else {
             return Outcome { given: k, end };
         };
-        let is_share = pace.is_share(k + 1, worker.task.unit);
+        let has_worker_enough_tasks = pace.has_worker_enough_tasks(k + 1, worker.task.unit);
         swap(&mut worker.task, &mut worker.held[k].task);
-        if is_share {
+        if has_worker_enough_tasks {
             return Outcome { given: k + 1, end };
         }
     }
@@ -101,7 +101,7 @@ fn claim_share<R: Wait>(
 }
 
 // Takes the lock of the calls. A visit is short, so it looks for a while before it sleeps.
-fn lock_calls<'a, R: Wait>(rt: &R, crew: &'a Crew) -> MutexGuard<'a, Call> {
+fn lock_board_for_visit<'a, R: Wait>(rt: &R, crew: &'a Crew) -> MutexGuard<'a, Call> {
     for _ in 0..MOST_LOOKS {
         if let Some(call) = crew.call.try_lock() {
             return call;
@@ -112,7 +112,7 @@ fn lock_calls<'a, R: Wait>(rt: &R, crew: &'a Crew) -> MutexGuard<'a, Call> {
 }
 
 /// Posts the answers to the first tasks that the worker holds, and claims others in their place.
-pub fn visit_board<R: Wait>(
+pub fn post_answers_and_claim_tasks<R: Wait>(
     rt: &R,
     board: &SharedBoard,
     crew: &Crew,
@@ -126,7 +126,7 @@ pub fn visit_board<R: Wait>(
     ensures given { AreGiven result.given worker.new }
     ensures told { IsEnd result.end worker.new }
 {
-    let _call = lock_calls(rt, crew);
+    let _call = lock_board_for_visit(rt, crew);
     post_answers(rt, board, worker, answered);
-    claim_share(rt, board, worker, pace)
+    claim_share_of_tasks(rt, board, worker, pace)
 }

@@ -4,7 +4,7 @@ ghost use Rattle.answer_workers.specs.Workers.{IsWorkerOf, HasWorked, AreGiven, 
 
 use crate::gate::Gate;
 use crate::pace::Pace;
-use crate::visit::{Crew, Outcome, visit_board};
+use crate::visit::{Crew, Outcome, post_answers_and_claim_tasks};
 use crate::worker::Worker;
 use board_core::Claim;
 use board_share::SharedBoard;
@@ -14,7 +14,7 @@ use std::thread;
 // Visits the board until something is given, or all has ended. Only the worker that holds the
 // lookout visits it again and again, and it yields its core in between; the others sleep until it
 // has its tasks.
-fn visit_until_given<R: Wait>(
+fn poll_board_until_task_given<R: Wait>(
     rt: &R,
     board: &SharedBoard,
     crew: &Crew,
@@ -28,7 +28,7 @@ fn visit_until_given<R: Wait>(
 {
     let _lookout = crew.lookout.lock(rt);
     for _ in rt.forever() {
-        let outcome = visit_board(rt, board, crew, worker, 0, pace);
+        let outcome = post_answers_and_claim_tasks(rt, board, crew, worker, 0, pace);
         if outcome.given > 0 || outcome.end != Claim::NotYet {
             return outcome;
         }
@@ -38,7 +38,7 @@ fn visit_until_given<R: Wait>(
 }
 
 // Tells the gate of the answers that were posted.
-fn tell_gate_of_posts<G: Gate>(worker: &Worker, answered: usize, gate: &G)
+fn notify_test_gate_of_posts<G: Gate>(worker: &Worker, answered: usize, gate: &G)
     requires { answered ≤ length worker.now.held.items }
 {
     let caller = worker.seat.caller();
@@ -49,7 +49,7 @@ fn tell_gate_of_posts<G: Gate>(worker: &Worker, answered: usize, gate: &G)
 }
 
 /// Posts the answers and claims, and waits where there is no task yet.
-pub fn visit_or_wait<R: Wait, G: Gate>(
+pub fn post_and_claim_or_wait_for_task<R: Wait, G: Gate>(
     rt: &R,
     board: &SharedBoard,
     crew: &Crew,
@@ -64,10 +64,10 @@ pub fn visit_or_wait<R: Wait, G: Gate>(
     ensures given { AreGiven result.given worker.new }
     ensures told { IsEnd result.end worker.new }
 {
-    let outcome = visit_board(rt, board, crew, worker, answered, pace);
-    tell_gate_of_posts(worker, answered, gate);
+    let outcome = post_answers_and_claim_tasks(rt, board, crew, worker, answered, pace);
+    notify_test_gate_of_posts(worker, answered, gate);
     if outcome.given > 0 || outcome.end != Claim::NotYet {
         return outcome;
     }
-    visit_until_given(rt, board, crew, worker, pace)
+    poll_board_until_task_given(rt, board, crew, worker, pace)
 }

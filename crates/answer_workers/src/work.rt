@@ -9,7 +9,7 @@ use crate::gate::Gate;
 use crate::pace::Pace;
 use crate::tasks::answer_task;
 use crate::visit::Crew;
-use crate::waiting::visit_or_wait;
+use crate::waiting::post_and_claim_or_wait_for_task;
 use crate::worker::{Ended, Worker};
 use board_core::Claim;
 use board_share::SharedBoard;
@@ -41,7 +41,7 @@ fn answer_held_tasks<G: Gate>(worker: &mut Worker, given: usize, gate: &G)
 }
 
 // How the work has ended, if the last claim tells so.
-fn end_told_by_claim(end: Claim) -> Option<Ended>
+fn worker_end_from_claim_answer(end: Claim) -> Option<Ended>
     ensures ended { IfSome result (λ e. (w : Worker) → IsEnd end w → HasEnded e w) }
     ensures going { result ≡ None → (end ≡ Given) ⊎ (end ≡ NotYet) }
 {
@@ -53,7 +53,7 @@ fn end_told_by_claim(end: Claim) -> Option<Ended>
 }
 
 /// Claims, answers and posts until a claim finds the board finished or halted.
-pub fn work_to_the_end<R: Wait, G: Gate>(
+pub fn answer_tasks_until_board_ends<R: Wait, G: Gate>(
     rt: &R,
     board: &SharedBoard,
     crew: &Crew,
@@ -70,9 +70,11 @@ pub fn work_to_the_end<R: Wait, G: Gate>(
     };
     let mut answered = 0;
     for _ in rt.forever() {
-        let outcome = visit_or_wait(rt, board, crew, worker, answered, &mut pace, gate);
+        let outcome = post_and_claim_or_wait_for_task(
+            rt, board, crew, worker, answered, &mut pace, gate,
+        );
         if outcome.given == 0 {
-            if let Some(ended) = end_told_by_claim(outcome.end) {
+            if let Some(ended) = worker_end_from_claim_answer(outcome.end) {
                 return ended;
             }
         }

@@ -13,7 +13,7 @@ use std::alloc::{AllocError, Global};
 use std::sync::Arc;
 use uc_model::cases::Task;
 use uc_model::units::Answered;
-use unit_program::laws::benches_serve_less;
+use unit_program::laws::bench_suffices_for_fewer_periods;
 use unit_program::{Bench, LastAnswers};
 
 /// The most tasks that a worker holds at once.
@@ -87,7 +87,7 @@ impl Held {
 }
 
 // Room for as many tasks as a worker holds.
-fn make_held(alloc: Global, periods: u32) -> Result<Vec<Held>, AllocError>
+fn make_task_and_answer_buffers(alloc: Global, periods: u32) -> Result<Vec<Held>, AllocError>
     requires some { 1 ≤ periods }
     requires periods { periods ≤ MOST_PERIODS }
     ensures count { IfOk result (λ hs. length hs.items ≡ MOST_HELD) }
@@ -102,7 +102,10 @@ fn make_held(alloc: Global, periods: u32) -> Result<Vec<Held>, AllocError>
 }
 
 // Room for an answer, for the tasks that a worker holds, and for one that it is given.
-fn make_room(alloc: Global, periods: u32) -> Result<(Answered, Vec<Held>, Task), AllocError>
+fn make_worker_buffers(
+    alloc: Global,
+    periods: u32,
+) -> Result<(Answered, Vec<Held>, Task), AllocError>
     requires some { 1 ≤ periods }
     requires periods { periods ≤ MOST_PERIODS }
     ensures answer { IfOk result (λ r. length (schedule_of r.0.response).on ≡ periods) }
@@ -112,7 +115,7 @@ fn make_room(alloc: Global, periods: u32) -> Result<(Answered, Vec<Held>, Task),
     ensures task { IfOk result (λ r. IsTaskFor periods r.2) }
 {
     let answer = Answered::make(alloc, periods)?;
-    let held = make_held(alloc, periods)?;
+    let held = make_task_and_answer_buffers(alloc, periods)?;
     let task = Task::make(alloc, periods)?;
     Ok((answer, held, task))
 }
@@ -135,9 +138,9 @@ impl Worker {
             → All (λ (n : NamedThermalUnit). length n.unit.points ≤ points) m.thermal
             → HasParts m w) }
     {
-        benches_serve_less();
+        bench_suffices_for_fewer_periods();
         let bench = Bench::make(alloc, periods, points)?;
-        let (answer, held, task) = make_room(alloc, periods)?;
+        let (answer, held, task) = make_worker_buffers(alloc, periods)?;
         Ok(Worker {
             seat,
             bench,

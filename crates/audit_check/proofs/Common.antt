@@ -35,7 +35,7 @@ pub use Rattle.plain_lists.proofs.ListLaws.{head_of, tail_of, zip_item, length_s
 pub use Rattle.plain_lists.proofs.ListLaws.{length-zip_with, none_some, same_item, item_of, at_place, map-append}
 pub use Rattle.plain_lists.proofs.ListLaws.{total-push}
 pub use Rattle.uc_model.specs.BoundLaws.{EarningsAreWithin, EarnedSumsAreWithin, UnitsAreWithin, GivesWithin}
-pub use Rattle.uc_model.specs.BoundLaws.{most_given, least_given, OutputsAreWithin, TotalsAreWithin}
+pub use Rattle.uc_model.specs.BoundLaws.{most_given, least_given, OutputsAreWithin, PowerAndReserveTotalsAreWithin}
 pub use Rattle.uc_model.specs.BoundLaws.{DualValuesAreWithin, PlanCostsAreWithin}
 pub use Rattle.uc_model.specs.Data.{AnyUnit, PriceLists, Schedule, Market, units, Thermal, Flat, Bid, unit_count}
 pub use Rattle.uc_model.specs.Earnings.{amount_of, earnings, supply_in, IsTop}

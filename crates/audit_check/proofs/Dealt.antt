@@ -8,7 +8,7 @@ use Rattle.audit_check.proofs.Common.{below, added, all_added, HasRun, AnyUnit, 
 use Rattle.audit_check.proofs.Common.{earnings, supply_in, OneLeast, Fits, reserve_in, int_at, total, sum_below}
 use Rattle.audit_check.proofs.Common.{zip_with, total_power, total_reserve, head_of, tail_of, zip_item, length_same}
 use Rattle.audit_check.proofs.Common.{Sums, part_of, sum_of, FitsAt, AreSumsOf, AreAdded, AreSumsOfAll}
-use Rattle.task_deal.specs.Laws.{SumsAreDealt, NumbersAreDealt}
+use Rattle.task_deal.specs.Laws.{SumsOverJobsEqualSumOverTasks, JobsRanExactlyTheTasks}
 use Rattle.audit_check.proofs.Fitting.{Plan, the_plan, all_there}
 
 sum_front : (n : ℕ) (f : ℕ → ℤ) → sum_below (suc n) f ≡ f 0 +ℤ sum_below n (λ k. f (suc k))
@@ -85,7 +85,7 @@ module _ (m : Market) (π : PriceLists) where
 
     module _ (one : OneLeast) (jobs : List J)
         (once : IsPermutation (below (length (units m))) (concat (map runs jobs))) where
-      pub plan_of : NumbersAreDealt → ∥ All Kept jobs ∥₁ → (ss : List Schedule) × Plan π (units m) ss
+      pub plan_of : JobsRanExactlyTheTasks → ∥ All Kept jobs ∥₁ → (ss : List Schedule) × Plan π (units m) ss
       plan_of numbers kept = the_plan one π (units m) kept (λ all. build (units m) (λ k u is.
           let at = fit_in jobs k all
           ((numbers (length (units m)) (map runs jobs) k once).0 (slice_get_within (units m) k u is)) in
@@ -125,14 +125,16 @@ module _ (m : Market) (π : PriceLists) where
               ap (λ z. total (map (at_number g d (units m) plan) (runs j)) +ℤ z)
               (job_sums js (tail_of Kept j js kept))
 
-          pub dealt_sum : SumsAreDealt → ∥ All Kept jobs ∥₁ → total (map value jobs) ≡ total (zip_with g (units m) plan)
+          pub dealt_sum : SumsOverJobsEqualSumOverTasks → ∥ All Kept jobs ∥₁ → total (map value jobs) ≡ total
+              (zip_with g (units m) plan)
           dealt_sum dealt kept = ∥∥₁_elim kept (hlevel props) (λ all.
               job_sums jobs all
               ∙ (dealt (length (units m)) (map runs jobs) (at_number g d (units m) plan) once
               ∙ units_sum g d (units m) plan (length_same (λ u s. Fits u π s) (units m) plan fits)))
 
       -- sums of nothing, to which those of all jobs were added
-      pub all_sums : NumbersAreDealt → SumsAreDealt → All (λ j. ∥ Kept j ∥₁) jobs → (old new : Sums) →
+      pub all_sums : JobsRanExactlyTheTasks → SumsOverJobsEqualSumOverTasks → All (λ j. ∥ Kept j ∥₁) jobs →
+          (old new : Sums) →
           AreAdded sums jobs old new → (Schedule)
           → length old.supply.items ≡ m.periods → length old.reserve.items ≡ m.periods →
           length new.supply.items ≡ m.periods → length new.reserve.items ≡ m.periods

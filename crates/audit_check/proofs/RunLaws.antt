@@ -4,7 +4,8 @@ use Rattle.audit_check.proofs.Common.{◌++◌}
 use Rattle.audit_check.proofs.Common.{take, length, refl, sym, ap, ◌∙◌, subst, arith, length-append, cases_lt, ints}
 use Rattle.audit_check.proofs.Common.{All-map, All-push, All-nil, All, AllZip, range_with_len, slice_index_or, IsFalse}
 use Rattle.audit_check.proofs.Common.{IsRowBelow, AnyUnit, PriceLists, Schedule, Market, units, GivesWithin}
-use Rattle.audit_check.proofs.Common.{UnitsAreWithin, OutputsAreWithin, TotalsAreWithin, DualValuesAreWithin}
+use Rattle.audit_check.proofs.Common.{UnitsAreWithin, OutputsAreWithin, PowerAndReserveTotalsAreWithin}
+use Rattle.audit_check.proofs.Common.{DualValuesAreWithin}
 use Rattle.audit_check.proofs.Common.{PlanCostsAreWithin, DualIsAtMostCost, IsUnit, IsTotal, IsWorth, IsMarket}
 use Rattle.audit_check.proofs.Common.{ArePrices, Proposal, is_settled, Fits, IsNextRow, IsRun, total_power}
 use Rattle.audit_check.proofs.Common.{total_reserve, IsDualValue, head_of, tail_of, IsCostOfPlan, IsRowAt, IsRunSoFar}
@@ -41,7 +42,8 @@ gives outputs π (u ∷ us) (s ∷ ss) limits fit = (
   gives outputs π us ss (tail_of IsUnit u us limits) fit.1,
 )
 
-pub row_below : UnitsAreWithin → OutputsAreWithin → TotalsAreWithin → DualValuesAreWithin → DualIsAtMostCost →
+pub row_below : UnitsAreWithin → OutputsAreWithin → PowerAndReserveTotalsAreWithin → DualValuesAreWithin →
+    DualIsAtMostCost →
     (m : Market) (cost : ℤ) (π : PriceLists) (r : Proposal)
     → IsMarket m → ArePrices π → length π.energy ≡ m.periods → IsCostOfPlan m cost → IsRowAt m π r → IsRowBelow m cost r
 row_below limited outputs totals values at_most m cost π r limits are horizon plan row =

@@ -6,7 +6,7 @@ ghost use Rattle.uc_model.specs.PlainUnits.{prices_of, schedule_of};
 ghost use Rattle.unit_program.specs.Tops.{CanAnswer, IsBenchOver};
 ghost use Rattle.audit_check.specs.Sums.{AreSumsOf, AreWithin};
 
-use crate::count::{AnswerRoom, count_unit_answer};
+use crate::count::{AnswerRoom, answer_unit_and_add_to_sums};
 use crate::sums::Sums;
 use plain_lists::lists::{ReservedList, copy_list};
 use std::alloc::{AllocError, Global};
@@ -14,7 +14,7 @@ use std::sync::Arc;
 use task_deal::Job;
 use uc_model::cases::Case;
 use uc_model::units::{Answered, Prices};
-use unit_program::case_laws::units_can_answer;
+use unit_program::case_laws::feasible_units_can_answer;
 use unit_program::{Bench, LastAnswers};
 
 /// Answers units of a case by their numbers, all at the same prices, on a bench of its own. It
@@ -64,7 +64,7 @@ impl<'a> Answerer<'a> {
         requires bench { IsBenchOver (market_of case.now) bench }
         ensures { IfOk result (λ job. job.case.now ≡ case.now) }
     {
-        units_can_answer();
+        feasible_units_can_answer();
         let left = case.unit_count();
         let prices = Prices::make(alloc, case.periods)?;
         let answer = Answered::make(alloc, case.periods)?;
@@ -114,7 +114,7 @@ impl<'a> Job for Answerer<'a> {
 
     fn run(&mut self, task: u32) {
         let sums = &mut self.sums;
-        count_unit_answer(&mut self.means, self.case, &self.prices, task, sums);
+        answer_unit_and_add_to_sums(&mut self.means, self.case, &self.prices, task, sums);
         self.numbers.push(task);
         self.left -= 1;
     }

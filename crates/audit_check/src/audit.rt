@@ -16,8 +16,10 @@ ghost use Rattle.report_compare.specs.declared.verdict.Audit.TheVariants.{Right}
 
 use crate::answerer::Answerer;
 use crate::count::AnswerRoom;
-use crate::rows::right_rows;
-use report_compare::{Audit, Audited, CompareRoom, opening_right, verdict_of_rows};
+use crate::rows::recomputed_rows_of_run;
+use report_compare::{
+    Audit, Audited, CompareRoom, audit_result_of_right_rows, check_opening_lines,
+};
 use report_read::Report;
 use std::alloc::{AllocError, Global};
 use std::sync::{Arc, Wait};
@@ -26,7 +28,7 @@ use uc_model::cases::{Case, Plan};
 use unit_program::{Bench, LastAnswers};
 
 // A job on each bench, all with the same last answers.
-fn jobs_for<'a>(
+fn make_audit_jobs<'a>(
     alloc: Global,
     case: &'a Case,
     mut benches: Vec<Bench>,
@@ -46,7 +48,7 @@ fn jobs_for<'a>(
 }
 
 // The bench of the last job.
-fn bench_of_last_job(mut jobs: Vec<Answerer>) -> Bench
+fn workspace_of_last_job(mut jobs: Vec<Answerer>) -> Bench
     requires { 1 ≤ length jobs.items }
     ensures { (m : Market) → AreFor m jobs.entry.items → IsBenchOver m result }
 {
@@ -71,7 +73,7 @@ fn bench_of_last_job(mut jobs: Vec<Answerer>) -> Bench
 
 // As many proposals as tell whether the report has all of them and no other: one more than it has,
 // within its budget.
-fn enough_rows(report: &Report) -> u32
+fn row_count_to_audit(report: &Report) -> u32
     ensures { result ≡ min report.now.budget (length report.now.rows.items + 1) }
 {
     let count = report.rows.len();
@@ -83,7 +85,7 @@ fn enough_rows(report: &Report) -> u32
 }
 
 // The audit of a report whose first six lines are right.
-fn judged_by_own_rows<R: Threads + Wait + Sync>(
+fn audit_by_recomputed_rows<R: Threads + Wait + Sync>(
     rt: &R,
     alloc: Global,
     audited: &Audited<'_>,
@@ -98,12 +100,12 @@ fn judged_by_own_rows<R: Threads + Wait + Sync>(
     let case = audited.case;
     let last = LastAnswers::make(alloc, case.thermal.len() as u32, case.periods)?;
     let last = Arc::new(alloc, last)?;
-    let mut jobs = jobs_for(alloc, case, benches, &last)?;
-    let most = enough_rows(audited.report);
+    let mut jobs = make_audit_jobs(alloc, case, benches, &last)?;
+    let most = row_count_to_audit(audited.report);
     let ahead = audited.report.ahead;
-    let rows = right_rows(rt, alloc, case, audited.cost, most, ahead, &mut jobs)?;
-    let mut compare_room = CompareRoom::make(alloc, case, bench_of_last_job(jobs), last)?;
-    let audit = verdict_of_rows(audited, rows.as_slice(), &mut compare_room);
+    let rows = recomputed_rows_of_run(rt, alloc, case, audited.cost, most, ahead, &mut jobs)?;
+    let mut compare_room = CompareRoom::make(alloc, case, workspace_of_last_job(jobs), last)?;
+    let audit = audit_result_of_right_rows(audited, rows.as_slice(), &mut compare_room);
     Ok(audit)
 }
 
@@ -149,8 +151,8 @@ pub fn check_report<R: Threads + Wait + Sync>(
         cost,
         report,
     };
-    match opening_right(&audited) {
-        Ok(_) => judged_by_own_rows(rt, alloc, &audited, benches),
+    match check_opening_lines(&audited) {
+        Ok(_) => audit_by_recomputed_rows(rt, alloc, &audited, benches),
         Err(wrong) => Ok(Audit::Wrong { line: wrong.line }),
     }
 }

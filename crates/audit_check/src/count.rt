@@ -11,10 +11,10 @@ use std::alloc::Global;
 use std::sync::Arc;
 use uc_model::cases::Case;
 use uc_model::laws::{
-    earnings_are_within, outputs_are_within, units_are_numbered, units_are_within,
+    earnings_are_within, outputs_are_within, unit_numbers_go_by_kind, units_are_within,
 };
 use uc_model::units::{Answered, Prices};
-use unit_program::{Bench, LastAnswers, answer_numbered_unit};
+use unit_program::{Bench, LastAnswers, write_best_response_of_numbered_unit};
 
 /// What units are answered with: a bench, their last answers, which other benches may share, and
 /// room for an answer.
@@ -27,7 +27,7 @@ pub struct AnswerRoom {
 
 /// Answers the unit of a number at the prices, and adds what it earns, gives or takes, and
 /// reserves; adds nothing where there is no unit of that number. Takes no memory.
-pub fn count_unit_answer(
+pub fn answer_unit_and_add_to_sums(
     means: &mut AnswerRoom,
     case: &Case,
     prices: &Prices,
@@ -47,14 +47,14 @@ pub fn count_unit_answer(
     ensures answer { length (schedule_of means.new.answer.response).on
         ≡ (market_of case.now).periods }
 {
-    units_are_numbered();
+    unit_numbers_go_by_kind();
     units_are_within();
     outputs_are_within();
     earnings_are_within();
     if number >= case.unit_count() {
         return;
     }
-    let flow = answer_numbered_unit(
+    let flow = write_best_response_of_numbered_unit(
         &mut means.bench,
         &means.last,
         case,

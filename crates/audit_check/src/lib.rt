@@ -17,4 +17,4 @@ mod sums;
 
 pub use answerer::Answerer;
 pub use audit::check_report;
-pub use rows::right_rows;
+pub use rows::recomputed_rows_of_run;

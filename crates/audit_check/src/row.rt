@@ -17,16 +17,16 @@ use std::alloc::{AllocError, Global};
 use std::sync::Wait;
 use std::thread::Threads;
 use task_deal::deal_all;
-use task_deal::law::{numbers_are_dealt, sums_are_dealt};
+use task_deal::law::{jobs_ran_exactly_the_tasks, sums_over_jobs_equal_sum_over_tasks};
 use uc_model::cases::{Case, Row};
 use uc_model::laws::{
-    earned_sums_are_within, earnings_are_within, one_schedule_is_least, units_are_numbered,
-    units_are_within,
+    earned_sums_are_within, earnings_are_within, least_best_schedule_is_unique,
+    unit_numbers_go_by_kind, units_are_within,
 };
 use uc_model::units::Prices;
 
 // Begins a proposal on each job.
-fn begin_each_job(case: &Case, jobs: &mut [Answerer], prices: &Prices)
+fn begin_proposal_on_jobs(case: &Case, jobs: &mut [Answerer], prices: &Prices)
     requires jobs { AreFor (market_of case.now) jobs.old }
     requires horizon { length (prices_of prices.now).energy ≡ (market_of case.now).periods }
     ensures count { length jobs.new ≡ length jobs.old }
@@ -38,17 +38,17 @@ fn begin_each_job(case: &Case, jobs: &mut [Answerer], prices: &Prices)
 }
 
 // Begins all jobs of a list.
-fn begin_jobs(case: &Case, jobs: &mut Vec<Answerer>, prices: &Prices)
+fn begin_proposal_on_job_list(case: &Case, jobs: &mut Vec<Answerer>, prices: &Prices)
     requires jobs { AreFor (market_of case.now) jobs.old.items }
     requires horizon { length (prices_of prices.now).energy ≡ (market_of case.now).periods }
     ensures count { length jobs.new.items ≡ length jobs.old.items }
     ensures begun { HaveBegun (market_of case.now) (prices_of prices.now) jobs.new.items }
 {
-    begin_each_job(case, jobs.as_mut_slice(), prices);
+    begin_proposal_on_jobs(case, jobs.as_mut_slice(), prices);
 }
 
 // Adds the sums of all jobs to sums of nothing.
-fn gather_sums(jobs: &[Answerer], sums: &mut Sums)
+fn add_sums_of_jobs(jobs: &[Answerer], sums: &mut Sums)
     requires count { length jobs.now ≤ MOST_JOBS }
     requires jobs { All (λ job. AreWithin (length sums.old.supply.items) MOST_UNITS job.sums)
         jobs.now }
@@ -79,15 +79,15 @@ fn sums_of_answers<R: Threads + Wait + Sync>(
     ensures count { length jobs.new.items ≡ length jobs.old.items }
     ensures jobs { AreFor (market_of case.now) jobs.new.items }
 {
-    units_are_numbered();
-    one_schedule_is_least();
-    sums_are_dealt();
-    numbers_are_dealt();
-    begin_jobs(case, jobs, prices);
+    unit_numbers_go_by_kind();
+    least_best_schedule_is_unique();
+    sums_over_jobs_equal_sum_over_tasks();
+    jobs_ran_exactly_the_tasks();
+    begin_proposal_on_job_list(case, jobs, prices);
     let mut sums = Sums::make(alloc, case.periods)?;
     let units = case.unit_count();
     deal_all(rt, alloc, units, jobs)?;
-    gather_sums(jobs.as_slice(), &mut sums);
+    add_sums_of_jobs(jobs.as_slice(), &mut sums);
     Ok(sums)
 }
 
@@ -97,7 +97,7 @@ fn sums_of_answers<R: Threads + Wait + Sync>(
 /// # Errors
 ///
 /// `AllocError` if memory runs out.
-pub fn row_at<R: Threads + Wait + Sync>(
+pub fn proposal_row_at_prices<R: Threads + Wait + Sync>(
     rt: &R,
     alloc: Global,
     case: &Case,

@@ -16,7 +16,7 @@ ghost use Rattle.audit_check.specs.Jobs.{AreFor};
 ghost use Rattle.audit_check.specs.Rows.{IsCostOfPlan, IsNextProposal, IsLast};
 
 use crate::answerer::Answerer;
-use crate::row::row_at;
+use crate::row::proposal_row_at_prices;
 use plain_lists::lists::{Numbers, ReservedList};
 use price_space::{Moved, next_prices, opening_prices, start_prices};
 use std::alloc::{AllocError, Global};
@@ -25,7 +25,7 @@ use std::thread::Threads;
 use uc_model::cases::{Case, Row};
 use uc_model::laws::{
     dual_is_at_most_cost, dual_values_are_within, outputs_are_within, plan_costs_are_within,
-    totals_are_within, units_are_within,
+    power_and_reserve_totals_are_within, units_are_within,
 };
 use uc_model::units::Prices;
 
@@ -98,7 +98,7 @@ fn write_next_prices(
 /// # Errors
 ///
 /// `AllocError` if memory runs out.
-pub fn right_rows<R: Threads + Wait + Sync>(
+pub fn recomputed_rows_of_run<R: Threads + Wait + Sync>(
     rt: &R,
     alloc: Global,
     case: &Case,
@@ -119,7 +119,7 @@ pub fn right_rows<R: Threads + Wait + Sync>(
 {
     units_are_within();
     outputs_are_within();
-    totals_are_within();
+    power_and_reserve_totals_are_within();
     plan_costs_are_within();
     dual_values_are_within();
     dual_is_at_most_cost();
@@ -130,7 +130,7 @@ pub fn right_rows<R: Threads + Wait + Sync>(
         if !write_next_prices(case, &start, rows.as_slice(), ahead, cost, &mut prices) {
             return Ok(rows);
         }
-        let row = row_at(rt, alloc, case, prices, jobs)?;
+        let row = proposal_row_at_prices(rt, alloc, case, prices, jobs)?;
         rows.push(row);
     }
     Ok(rows)

@@ -11,7 +11,7 @@ ghost use Rattle.plain_lists.specs.Sums.{int_at};
 ghost use Rattle.audit_check.specs.Sums.{IsSmall, AreWithin};
 
 use plain_lists::lists::Amounts;
-use price_space::count_each;
+use price_space::add_nonzero_powers_to_totals;
 use std::alloc::{AllocError, Global};
 use uc_model::units::{Answered, Flow};
 
@@ -37,7 +37,7 @@ fn sum_of_totals(total: i128, amount: i128) -> i128
 }
 
 // Adds an amount for each period to the total of that period.
-fn add_each(totals: &mut Amounts, amounts: &Amounts)
+fn add_amounts_by_period(totals: &mut Amounts, amounts: &Amounts)
     requires lengths { length amounts.now.items ≡ length totals.old.items }
     requires totals { All (IsSmall (MOST_JOBS * MOST_UNITS)) totals.old.items }
     requires amounts { All (IsSmall MOST_UNITS) amounts.now.items }
@@ -96,8 +96,8 @@ impl Sums {
             (λ k. reserve_in (schedule_of answer.now.response) (suc k)) }
     {
         self.earned += i128::from(answer.earned);
-        count_each(&mut self.supply, flow, &answer.response.power);
-        count_each(&mut self.reserve, Flow::Gives, &answer.response.reserve);
+        add_nonzero_powers_to_totals(&mut self.supply, flow, &answer.response.power);
+        add_nonzero_powers_to_totals(&mut self.reserve, Flow::Gives, &answer.response.reserve);
     }
 
     /// Adds other sums over the same periods.
@@ -112,7 +112,7 @@ impl Sums {
             (int_at other.now.reserve.items) }
     {
         self.earned += other.earned;
-        add_each(&mut self.supply, &other.supply);
-        add_each(&mut self.reserve, &other.reserve);
+        add_amounts_by_period(&mut self.supply, &other.supply);
+        add_amounts_by_period(&mut self.reserve, &other.reserve);
     }
 }

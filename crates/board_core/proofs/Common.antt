@@ -36,7 +36,7 @@ pub use Rattle.board_core.specs.Rounds.{with_opened}
 pub use Rattle.board_core.specs.Setups.{IsSetup, setup_of}
 pub use Rattle.board_store.specs.Board.{Setup, Answer, rules_of, no_answer, Content, IsRight, IsLegalHistory}
 pub use Rattle.board_store.specs.Board.{earned_in, schedules_in}
-pub use Rattle.board_store.specs.BoardLaws.{RoundLaws, BoardLaws, DifferencesMean, Extends, TakenTells}
+pub use Rattle.board_store.specs.BoardLaws.{RoundLaws, BoardLaws, ListsDifferAtFirstUnequalNumber, Extends, TakenTells}
 pub use Rattle.board_store.specs.Bounds.{IsSum, IsTotal, TotalsAreWithin, IsWorth}
 pub use Rattle.board_store.specs.Calls.{differs_from, post_answer, after_post, after_halt, own_rows, claim_answer}
 pub use Rattle.board_store.specs.Calls.{after_claim, has_finished}

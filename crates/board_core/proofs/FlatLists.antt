@@ -2,7 +2,8 @@
 use Rattle.board_core.proofs.Common.{inl, inr, ◌≡◌, ℕ, ◌+◌, ◌*◌, ◌≤◌, ℤ, pos, Option, Some, None, List, []}
 use Rattle.board_core.proofs.Common.{◌∷◌, ◌++◌, map, length, get_or, refl, sym, ap, ◌∙◌, arith, length-append}
 use Rattle.board_core.proofs.Common.{length-map, get_or_from_slice_get, slice_get_within, slice_get-get_or, cases_lt}
-use Rattle.board_core.proofs.Common.{flat_map, option_map_or, slice_get, Setup, DifferencesMean, differs_from}
+use Rattle.board_core.proofs.Common.{flat_map, option_map_or, slice_get, Setup, ListsDifferAtFirstUnequalNumber}
+use Rattle.board_core.proofs.Common.{differs_from}
 use Rattle.board_core.proofs.Common.{difference, IsOver, IsTask, AnyUnit, PriceLists, Thermal, Flat, Bid, units}
 use Rattle.board_core.proofs.Common.{chosen_unit, task_unit, prices_of, items_in, int_at, lag_numbers, point_numbers}
 use Rattle.board_core.proofs.Common.{mark_number, fixed_numbers, list_numbers}
@@ -92,20 +93,22 @@ past_end xs k e = elim (cases_lt k (length xs)) [
   | inr more ↦ more
 ]
 
-pub no_more : DifferencesMean → (own given : List ℤ) (k : ℕ) → AreSame own given k → length own ≤ k →
+pub no_more : ListsDifferAtFirstUnequalNumber → (own given : List ℤ) (k : ℕ) → AreSame own given k → length own ≤ k →
     differs_of (difference own given) ≡ None
 no_more means own given k S e = ap differs_of ((means own given).none (λ i a b. S.same i (omega (arith, a, e))))
 
-pub own_ends : DifferencesMean → (own given : List ℤ) (k : ℕ) → AreSame own given k → slice_get own k ≡ None →
+pub own_ends : ListsDifferAtFirstUnequalNumber → (own given : List ℤ) (k : ℕ) → AreSame own given k → slice_get own k ≡
+    None →
     differs_of (difference own given) ≡ None
 own_ends means own given k S e = no_more means own given k S (past_end own k e)
 
-pub given_ends : DifferencesMean → (own given : List ℤ) (k : ℕ) → AreSame own given k → slice_get given k ≡ None →
+pub given_ends : ListsDifferAtFirstUnequalNumber → (own given : List ℤ) (k : ℕ) → AreSame own given k → slice_get given
+    k ≡ None →
     differs_of (difference own given) ≡ None
 given_ends means own given k S e = let f = past_end given k e in
     ap differs_of ((means own given).none (λ i a b. S.same i (omega (arith, b, f))))
 
-pub differ_here : DifferencesMean → (own given : List ℤ) (k : ℕ) (y z : ℤ) → AreSame own given k →
+pub differ_here : ListsDifferAtFirstUnequalNumber → (own given : List ℤ) (k : ℕ) (y z : ℤ) → AreSame own given k →
     slice_get own k ≡ Some y → slice_get given k ≡ Some z → (y ≡ z → ⊥) →
     differs_of (difference own given) ≡ Some (differs.Content k y z)
 differ_here means own given k y z S e f other =
@@ -133,7 +136,7 @@ one_more own given k y z S e f same =
     }
 
 -- the board's own task differs in nothing
-pub no_difference : DifferencesMean → (b : Setup) (u : ℕ) (π ρ : PriceLists) (x : AnyUnit) → π ≡ ρ →
+pub no_difference : ListsDifferAtFirstUnequalNumber → (b : Setup) (u : ℕ) (π ρ : PriceLists) (x : AnyUnit) → π ≡ ρ →
     slice_get (units b.market) u ≡ Some x → differs_of (differs_from b u ρ x π) ≡ None
 no_difference means b u π ρ x prices is =
     ap (λ (σ : PriceLists). differs_of (differs_from b u ρ x σ)) prices

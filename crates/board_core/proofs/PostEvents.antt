@@ -4,7 +4,7 @@ use Rattle.board_core.proofs.Common.{◌++◌, get_or, refl, sym, ap, ◌∙◌,
 use Rattle.board_core.proofs.Common.{map-append, is_some, Setup, Answer, no_answer, rules_of, Event, Taken, Closing}
 use Rattle.board_core.proofs.Common.{sooner, only_at, posts, post_event, Entry, unit_count, task_number, event_by}
 use Rattle.board_core.proofs.Common.{event_of, events_of, LedgerValue, Lists, IsBoard, reply_of}
-use Rattle.board_store.specs.Laws.{AnswersFit}
+use Rattle.board_store.specs.Laws.{AnswersOfHistoryFitTheirTasks}
 use Rattle.board_store.specs.declared.entries.Call.TheVariants as calls
 use Rattle.board_store.specs.declared.entries.Reply.{Reply}
 use Rattle.board_store.specs.declared.entries.Reply.TheVariants as replies
@@ -74,7 +74,7 @@ event_is : (t : Bool) (c n u : ℕ) (a : Answer) →
 event_is true c n u a = refl
 event_is false c n u a = refl
 
-module _ (answered : AnswersFit) (b : Setup) (h : List (Event Answer)) (x : Lists) (l : LedgerValue)
+module _ (answered : AnswersOfHistoryFitTheirTasks) (b : Setup) (h : List (Event Answer)) (x : Lists) (l : LedgerValue)
     (I : IsBoard b h x l) (c n u : ℕ) (a : Answer) (H : IsHeldTask b h l c n u)
     (entries : List Entry) (is : events_of (unit_count b.market) x.kept entries ≡ h) where
   abbrev units : ℕ

@@ -21,7 +21,7 @@ ghost use Rattle.board_core.specs.Setups.{IsSetup, setup_of};
 use crate::ledger::Ledger;
 use crate::terms::Terms;
 use board_store::laws::board_laws;
-use price_space::{Moved, dual_value, next_prices_from};
+use price_space::{Moved, dual_value, next_prices_from_best_row};
 use uc_model::cases::Row;
 use uc_model::laws::plan_costs_are_within;
 use uc_model::units::Prices;
@@ -44,7 +44,7 @@ fn propose_prices(terms: &Terms, rows: &[Row], best: usize, into: &mut Prices) -
     ensures horizon { length (prices_of into.new).energy ≡ (setup_of terms.now).market.periods }
 {
     plan_costs_are_within();
-    let moved = next_prices_from(&terms.case, rows, best, terms.cost, into);
+    let moved = next_prices_from_best_row(&terms.case, rows, best, terms.cost, into);
     moved == Moved::Made
 }
 

@@ -19,12 +19,12 @@ ghost use Rattle.board_store.specs.Answers.{answer_of};
 ghost use Rattle.board_core.specs.Tasks.{LeavesTask};
 
 use crate::advance::advance_proposals;
-use crate::history::{entry_of, post_entry};
+use crate::history::{history_entry_of_call, history_entry_of_taken_post};
 use crate::ledger::Ledger;
-use crate::opening::{EventLists, Room, no_events, open_ledger};
-use crate::posts::{closed_proposal, count_answer, refusal_of_post};
+use crate::opening::{EventLists, Room, make_empty_event_lists, make_ledger_with_open_proposals};
+use crate::posts::{count_answer, number_of_proposal_if_closed, refusal_of_post};
 use crate::replies::{Claim, Posted};
-use crate::terms::{Terms, number_before, task_number};
+use crate::terms::{Terms, task_number, task_number_one_proposal_before};
 use board_store::Store;
 use board_store::entries::{Call, Entry, Reply};
 use board_store::laws::board_laws;
@@ -127,9 +127,15 @@ impl Board {
         let periods = terms.case.periods;
         let budget = terms.budget;
         let tasks = budget as usize * terms.case.unit_count() as usize;
-        let lists = no_events(alloc, tasks, budget as usize, terms.callers as usize)?;
+        let lists = make_empty_event_lists(alloc, tasks, budget as usize, terms.callers as usize)?;
         let mut room = Room::make(alloc, periods)?;
-        let ledger = open_ledger(alloc, &terms.case, budget, terms.ahead, &mut room.next)?;
+        let ledger = make_ledger_with_open_proposals(
+            alloc,
+            &terms.case,
+            budget,
+            terms.ahead,
+            &mut room.next,
+        )?;
         let store = Store::make(alloc, tasks, periods)?;
         Ok(Board {
             terms,
@@ -174,7 +180,7 @@ impl Board {
         let prices = self.ledger.prices(before);
         fill_task(&self.terms.case, prices, proposal, unit, into);
         self.lists.takers.push_reserved(caller);
-        let entry = entry_of(caller, Call::Claim, proposal, unit, Reply::Given);
+        let entry = history_entry_of_call(caller, Call::Claim, proposal, unit, Reply::Given);
         self.lists.history.push_reserved(entry);
         Claim::Given
     }
@@ -215,12 +221,13 @@ impl Board {
         let before = task.proposal as usize - 1;
         let at = task_number(units, task.proposal, task.unit);
         self.lists.marks[at] = true;
-        self.store.put(at, answer, number_before(units, at));
+        self.store
+            .put(at, answer, task_number_one_proposal_before(units, at));
         self.ledger.add(before, task, answer);
         let closes = count_answer(&mut self.lists.counts, before) == units;
         self.lists
             .history
-            .push_reserved(post_entry(caller, task, closes));
+            .push_reserved(history_entry_of_taken_post(caller, task, closes));
         advance_proposals(
             &self.terms,
             &self.lists.counts,
@@ -228,7 +235,7 @@ impl Board {
             &mut self.room.next,
         );
         Posted::Taken {
-            closed: closed_proposal(closes, task.proposal),
+            closed: number_of_proposal_if_closed(closes, task.proposal),
         }
     }
 
@@ -245,7 +252,7 @@ impl Board {
         }
         self.lists.halted[at] = true;
         self.any_halt = true;
-        let entry = entry_of(caller, Call::Halt, 0, 0, Reply::Stopped);
+        let entry = history_entry_of_call(caller, Call::Halt, 0, 0, Reply::Stopped);
         self.lists.history.push_reserved(entry);
     }
 
@@ -311,7 +318,7 @@ impl Board {
             .earned(task_number(self.terms.case.unit_count(), proposal, unit))
     }
 
-    fn answer_into(&self, proposal: u32, unit: u32, into: &mut Answered)
+    fn copy_answer_out(&self, proposal: u32, unit: u32, into: &mut Answered)
         requires first { 1 ≤ proposal }
         requires last { proposal ≤ length (own_rows self.now) }
         requires unit { unit < unit_count self.now.setup.market }

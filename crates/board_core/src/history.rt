@@ -14,7 +14,13 @@ fn reply_to_post(closes: bool) -> Reply
 }
 
 /// The entry of a call, with numbers within the limits of a run.
-pub fn entry_of(caller: u32, call: Call, proposal: u32, unit: u32, reply: Reply) -> Entry
+pub fn history_entry_of_call(
+    caller: u32,
+    call: Call,
+    proposal: u32,
+    unit: u32,
+    reply: Reply,
+) -> Entry
     requires caller { caller ≤ MOST_CALLERS }
     requires proposal { proposal ≤ MOST_PROPOSALS }
     requires unit { unit ≤ MOST_UNITS }
@@ -36,7 +42,7 @@ pub fn entry_of(caller: u32, call: Call, proposal: u32, unit: u32, reply: Reply)
 }
 
 /// The entry of a post that is taken.
-pub fn post_entry(caller: u32, task: &Task, closes: bool) -> Entry
+pub fn history_entry_of_taken_post(caller: u32, task: &Task, closes: bool) -> Entry
     requires caller { caller ≤ MOST_CALLERS }
     requires proposal { task.now.proposal ≤ MOST_PROPOSALS }
     requires unit { task.now.unit ≤ MOST_UNITS }
@@ -49,7 +55,7 @@ pub fn post_entry(caller: u32, task: &Task, closes: bool) -> Entry
       reply = reply_of closes;
     } }
 {
-    entry_of(
+    history_entry_of_call(
         caller,
         Call::Post,
         task.proposal,

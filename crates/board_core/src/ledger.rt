@@ -16,7 +16,7 @@ ghost use Rattle.board_core.specs.Ledgers.{blank, with_prices, with_value, with_
 
 use board_store::tasks::copy_prices;
 use plain_lists::lists::Amounts;
-use price_space::{add_response, greatest_row_with, take_bid};
+use price_space::{add_response, row_of_greatest_dual_value_up_to, take_bid};
 use std::alloc::{AllocError, Global};
 use std::marker::Model;
 use uc_model::cases::{Row, Task};
@@ -67,7 +67,7 @@ impl Drop for Ledger {
     }
 }
 
-fn blank_row(alloc: Global, periods: u32) -> Result<Row, AllocError>
+fn make_blank_proposal_row(alloc: Global, periods: u32) -> Result<Row, AllocError>
     requires some { 1 ≤ periods }
     requires limit { periods ≤ MOST_PERIODS }
     ensures { IfOk result (λ row. proposal_of row ≡ blank periods) }
@@ -83,27 +83,27 @@ fn blank_row(alloc: Global, periods: u32) -> Result<Row, AllocError>
     })
 }
 
-fn blank_rows(alloc: Global, periods: u32, count: u32) -> Result<Vec<Row>, AllocError>
+fn make_blank_proposal_rows(alloc: Global, periods: u32, count: u32) -> Result<Vec<Row>, AllocError>
     requires some { 1 ≤ periods }
     requires limit { periods ≤ MOST_PERIODS }
     ensures { IfOk result (λ rows. map proposal_of rows.items ≡ replicate count (blank periods)) }
 {
     let mut rows = Vec::with_capacity(alloc, count as usize)?;
     for _ in 0..count {
-        let row = blank_row(alloc, periods)?;
+        let row = make_blank_proposal_row(alloc, periods)?;
         rows.push_reserved(row);
     }
     Ok(rows)
 }
 
-fn set_prices(row: &mut Row, prices: &Prices)
+fn set_prices_of_row(row: &mut Row, prices: &Prices)
     requires { length (prices_of prices.now).energy ≡ length (proposal_of row.old).prices.energy }
     ensures { proposal_of row.new ≡ with_prices (proposal_of row.old) (prices_of prices.now) }
 {
     copy_prices(prices, &mut row.prices);
 }
 
-fn set_value(row: &mut Row, value: i128)
+fn set_dual_value_of_row(row: &mut Row, value: i128)
     ensures { proposal_of row.new ≡ with_value (proposal_of row.old) value }
 {
     row.value = value;
@@ -134,7 +134,7 @@ fn earned_with_answer(total: i128, earned: i64) -> i128
     total + i128::from(earned)
 }
 
-fn no_totals(alloc: Global, count: usize) -> Result<Vec<i128>, AllocError>
+fn make_zero_earnings_totals(alloc: Global, count: usize) -> Result<Vec<i128>, AllocError>
     ensures { IfOk result (λ v. v.items ≡ replicate count (pos 0)) }
 {
     vec![in alloc; 0; count]
@@ -150,8 +150,8 @@ impl Ledger {
         ensures closed { IfOk result (λ l. l.closed ≡ 0) }
         ensures opened { IfOk result (λ l. l.opened ≡ 0) }
     {
-        let proposals = blank_rows(alloc, periods, budget)?;
-        let earned = no_totals(alloc, budget as usize)?;
+        let proposals = make_blank_proposal_rows(alloc, periods, budget)?;
+        let earned = make_zero_earnings_totals(alloc, budget as usize)?;
         Ok(Ledger {
             proposals,
             earned,
@@ -224,7 +224,7 @@ impl Ledger {
         ensures closed { self.new.closed ≡ self.old.closed }
         ensures opened { self.new.opened ≡ self.old.opened + 1 }
     {
-        set_prices(&mut self.proposals[self.opened], prices);
+        set_prices_of_row(&mut self.proposals[self.opened], prices);
         self.opened += 1;
     }
 
@@ -238,8 +238,8 @@ impl Ledger {
         ensures closed { self.new.closed ≡ self.old.closed + 1 }
         ensures opened { self.new.opened ≡ self.old.opened }
     {
-        set_value(&mut self.proposals[self.closed], value);
-        let best = greatest_row_with(&self.proposals, self.closed, self.best);
+        set_dual_value_of_row(&mut self.proposals[self.closed], value);
+        let best = row_of_greatest_dual_value_up_to(&self.proposals, self.closed, self.best);
         self.best = best;
         self.closed += 1;
     }

@@ -72,21 +72,21 @@ impl Room {
 }
 
 // So many flags that are off.
-fn no_flags(alloc: Global, count: usize) -> Result<Vec<bool>, AllocError>
+fn make_false_flags(alloc: Global, count: usize) -> Result<Vec<bool>, AllocError>
     ensures { IfOk result (λ v. v.items ≡ replicate count false) }
 {
     vec![in alloc; false; count]
 }
 
 // So many counts of 0.
-fn no_counts(alloc: Global, count: usize) -> Result<Vec<u32>, AllocError>
+fn make_zero_counts(alloc: Global, count: usize) -> Result<Vec<u32>, AllocError>
     ensures { IfOk result (λ v. v.items ≡ replicate count 0) }
 {
     vec![in alloc; 0; count]
 }
 
 /// The lists without an event, with room for each that may come.
-pub fn no_events(
+pub fn make_empty_event_lists(
     alloc: Global,
     tasks: usize,
     budget: usize,
@@ -98,9 +98,9 @@ pub fn no_events(
 {
     let history = Vec::with_capacity(alloc, 2 * tasks + callers)?;
     let takers = Vec::with_capacity(alloc, tasks)?;
-    let marks = no_flags(alloc, tasks)?;
-    let counts = no_counts(alloc, budget)?;
-    let halted = no_flags(alloc, callers)?;
+    let marks = make_false_flags(alloc, tasks)?;
+    let counts = make_zero_counts(alloc, budget)?;
+    let halted = make_false_flags(alloc, callers)?;
     Ok(EventLists {
         history,
         takers,
@@ -128,7 +128,7 @@ fn open_first_proposals(start: &Numbers, count: u32, ledger: &mut Ledger, next: 
 
 /// The ledger of a board without events. `next` is used for the prices of the proposals that are
 /// open.
-pub fn open_ledger(
+pub fn make_ledger_with_open_proposals(
     alloc: Global,
     case: &Case,
     budget: u32,

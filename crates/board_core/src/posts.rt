@@ -19,8 +19,10 @@ ghost use Rattle.board_core.specs.Setups.{IsSetup, setup_of};
 use crate::ledger::Ledger;
 use crate::replies::{Differs, Posted};
 use crate::terms::{Terms, task_number};
-use board_store::laws::differences_mean;
-use board_store::same::{count_alike, is_unit_of, same_prices};
+use board_store::laws::lists_differ_at_first_unequal_number;
+use board_store::same::{
+    count_equal_leading_task_numbers, is_task_unit_same_as_case_unit, same_prices,
+};
 use board_store::tasks::fill_task;
 use uc_model::cases::Task;
 use uc_model::task_numbers::flat_number;
@@ -30,13 +32,13 @@ const MOST_NUMBERS: u32 = 4_000;
 
 // The first place at which the flat lists of two tasks differ, with the two numbers there. A number
 // of a bid is found by going over its periods, so the walk begins at the first period that differs.
-fn find_difference(own: &Task, task: &Task) -> Option<Differs>
+fn first_difference_between_tasks(own: &Task, task: &Task) -> Option<Differs>
     ensures { result ≡ differs_of
         (difference_of (task_numbers (prices_of own.now.prices) (task_unit own.now))
         (task_numbers (prices_of task.now.prices) (task_unit task.now))) }
 {
-    differences_mean();
-    for place in count_alike(own, task)..MOST_NUMBERS {
+    lists_differ_at_first_unequal_number();
+    for place in count_equal_leading_task_numbers(own, task)..MOST_NUMBERS {
         let board = flat_number(own, place)?;
         let task = flat_number(task, place)?;
         if board != task {
@@ -48,7 +50,7 @@ fn find_difference(own: &Task, task: &Task) -> Option<Differs>
 
 // Where a task differs from the board's own of its proposal and unit. That one is built in `own`
 // only where the two aren't seen to be the same at once.
-fn difference_from_own(
+fn difference_from_task_of_board(
     terms: &Terms,
     ledger: &Ledger,
     own: &mut Task,
@@ -66,22 +68,24 @@ fn difference_from_own(
         (task_unit task.now) (own_prices_in ledger.now task.now.proposal)) }
     ensures room { IsTaskFor (setup_of terms.now).market.periods own.new }
 {
-    differences_mean();
+    lists_differ_at_first_unequal_number();
     let prices = ledger.prices(task.proposal as usize - 1);
-    if same_prices(prices, &task.prices) && is_unit_of(&terms.case, task.unit, task) {
+    if same_prices(prices, &task.prices)
+        && is_task_unit_same_as_case_unit(&terms.case, task.unit, task)
+    {
         return None;
     }
     fill_task(&terms.case, prices, task.proposal, task.unit, own);
-    find_difference(own, task)
+    first_difference_between_tasks(own, task)
 }
 
-fn holder_of_task(takers: &[u32], at: usize) -> Option<u32>
+fn caller_who_claimed_task(takers: &[u32], at: usize) -> Option<u32>
     ensures { result ≡ slice_get takers.now at }
 {
     takers.get(at).copied()
 }
 
-fn is_holder(holder: Option<u32>, caller: u32) -> bool
+fn has_caller_claimed_task(holder: Option<u32>, caller: u32) -> bool
     ensures { result ≡ is_holder_of holder caller }
 {
     match holder {
@@ -91,7 +95,12 @@ fn is_holder(holder: Option<u32>, caller: u32) -> bool
 }
 
 // Why a post for the task of a number is refused, where it is the board's own.
-fn refusal_at(marks: &[bool], takers: &[u32], at: usize, caller: u32) -> Option<Posted>
+fn refusal_if_answered_or_unclaimed(
+    marks: &[bool],
+    takers: &[u32],
+    at: usize,
+    caller: u32,
+) -> Option<Posted>
     requires marks { at < length marks.now }
     requires claimed { slice_index_or marks.now at false ≡ true → at < length takers.now }
     ensures { result ≡ held_refusal marks.now takers.now at caller }
@@ -99,8 +108,8 @@ fn refusal_at(marks: &[bool], takers: &[u32], at: usize, caller: u32) -> Option<
     if marks[at] {
         return Some(Posted::Doubled { by: takers[at] });
     }
-    let holder = holder_of_task(takers, at);
-    if is_holder(holder, caller) {
+    let holder = caller_who_claimed_task(takers, at);
+    if has_caller_claimed_task(holder, caller) {
         return None;
     }
     Some(Posted::Stranger(Differs::Holder { caller, holder }))
@@ -146,11 +155,11 @@ pub fn refusal_of_post(
             units,
         }));
     }
-    if let Some(differs) = difference_from_own(terms, ledger, own, task) {
+    if let Some(differs) = difference_from_task_of_board(terms, ledger, own, task) {
         return Some(Posted::Stranger(differs));
     }
     let at = task_number(units, task.proposal, task.unit);
-    refusal_at(marks, takers, at, caller)
+    refusal_if_answered_or_unclaimed(marks, takers, at, caller)
 }
 
 /// Counts one more answer at a place, and says how many there are then.
@@ -167,7 +176,7 @@ pub fn count_answer(counts: &mut Vec<u32>, place: usize) -> u32
 }
 
 /// The proposal, where it closes.
-pub fn closed_proposal(closes: bool, proposal: u32) -> Option<u32>
+pub fn number_of_proposal_if_closed(closes: bool, proposal: u32) -> Option<u32>
     ensures { result ≡ closed_if closes proposal }
 {
     if closes { Some(proposal) } else { None }

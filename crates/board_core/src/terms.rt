@@ -68,7 +68,7 @@ pub fn task_number(units: u32, proposal: u32, unit: u32) -> usize
 
 /// The number of the same unit's task in the proposal before, or 0 where there is none. What a unit
 /// does at prices it often does at the next ones too.
-pub fn number_before(units: u32, number: usize) -> usize
+pub fn task_number_one_proposal_before(units: u32, number: usize) -> usize
     ensures { result ≤ number }
 {
     number.saturating_sub(units as usize)

@@ -2,12 +2,12 @@
 use Rattle.board_run.proofs.Common.{◌≡◌, ℕ, ◌*◌, ◌≤◌, sym, ap, ◌∙◌, subst, IsSetup, Setup, Market, IsFeasiblePlan}
 use Rattle.plain_lists.specs.declared.limits.TheConstants.{MOST_WORK}
 use Rattle.plan_settle.specs.FixedCase.{fixed_market}
-use Rattle.plan_settle.specs.HeldLaws.{CommitmentsAreFixed}
+use Rattle.plan_settle.specs.HeldLaws.{PlanStaysFeasibleWithFixedCommitments}
 use Rattle.right_report.specs.declared.side.Side.{Side}
 use Rattle.plan_settle.specs.Compared.{IsPaidSide, IsFixedSide, held_setup}
 
 -- what its board is made for
-pub held_is_setup : CommitmentsAreFixed → (b : Setup) → IsSetup b → IsSetup (held_setup b)
+pub held_is_setup : PlanStaysFeasibleWithFixedCommitments → (b : Setup) → IsSetup b → IsSetup (held_setup b)
 held_is_setup law b S =
     let fixing = law b.market b.plan S.market S.feasible in
     record {
@@ -24,7 +24,8 @@ held_is_setup law b S =
     }
 
 -- the run with commitments held, on the terms that the first run gave back
-module _ (law : CommitmentsAreFixed) (b back held : Setup) (given : Market) (setup : IsSetup b) (same : back ≡ b)
+module _ (law : PlanStaysFeasibleWithFixedCommitments) (b back held : Setup) (given : Market) (setup : IsSetup b)
+    (same : back ≡ b)
     (own : given ≡ back.market) (is_held : held ≡ held_setup back) where
   setup_back : IsSetup back
   setup_back = subst IsSetup (sym same) setup

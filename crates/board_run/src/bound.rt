@@ -8,7 +8,7 @@ use crate::run::{open_run, run_board};
 use answer_workers::Gate;
 use board_core::Terms;
 use plain_lists::lists::Amounts;
-use plan_settle::{Bounded, best_bound};
+use plan_settle::{Bounded, best_bound_around_chosen_prices};
 use std::alloc::{AllocError, Global};
 use std::sync::Wait;
 use std::thread::Threads;
@@ -30,7 +30,7 @@ pub fn run_and_bound<R: Threads + Wait + Sync, G: Gate>(
     let mut work = Amounts::filled(alloc, 2 * terms.case.periods, 0)?;
     let opened = open_run(alloc, terms)?;
     let done = run_board(rt, opened, gate);
-    let certified = best_bound(&done.closed, radius, &mut work);
+    let certified = best_bound_around_chosen_prices(&done.closed, radius, &mut work);
     Ok(Bounded {
         done,
         radius,

@@ -56,7 +56,7 @@ pub fn hire_workers(
 }
 
 /// Joins the workers' seats to the owner's.
-fn join_all(board: &SharedBoard, owner: &mut Seat, workers: &mut Vec<Worker>)
+fn join_worker_seats(board: &SharedBoard, owner: &mut Seat, workers: &mut Vec<Worker>)
     requires { AreOut board.now owner.old workers.old.items }
     ensures out { AreOut board.now owner.new [] }
     ensures setup { (view_of owner.new).setup ≡ (view_of owner.old).setup }
@@ -81,7 +81,7 @@ fn close_board(board: SharedBoard, mut owner: Seat, mut others: Vec<Worker>) -> 
     ensures finished { has_finished result ≡ true }
 {
     finished_stays_finished();
-    join_all(&board, &mut owner, &mut others);
+    join_worker_seats(&board, &mut owner, &mut others);
     board.close(owner)
 }
 

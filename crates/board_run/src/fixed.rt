@@ -10,8 +10,11 @@ ghost use Rattle.plan_settle.specs.Compared.{IsPaidSide, IsOwnSide, AreSides};
 use crate::run::{open_run, run_board};
 use answer_workers::Gate;
 use board_core::Terms;
-use plan_settle::held_laws::commitments_are_fixed;
-use plan_settle::{Sides, hold_commitments, settled_side, side_of_own_run, side_room};
+use plan_settle::held_laws::plan_stays_feasible_with_fixed_commitments;
+use plan_settle::{
+    Sides, fix_commitments_of_run, fixed_report_side_of_fixed_run, fixed_report_side_of_free_run,
+    make_side_buffers,
+};
 use right_report::Side;
 use std::alloc::{AllocError, Global};
 use std::sync::Wait;
@@ -21,7 +24,7 @@ use uc_model::units::Prices;
 
 /// Runs the board of these terms. Gives them back, and lets all else of the run go but its side.
 /// The memory that is needed after the opening of the run is taken before it.
-fn hull_side<R: Threads + Wait + Sync, G: Gate>(
+fn run_with_free_commitments<R: Threads + Wait + Sync, G: Gate>(
     rt: &R,
     alloc: Global,
     terms: Terms,
@@ -33,12 +36,12 @@ fn hull_side<R: Threads + Wait + Sync, G: Gate>(
 {
     let room = Prices::make(alloc, terms.case.periods)?;
     let opened = open_run(alloc, terms)?;
-    Ok(side_of_own_run(run_board(rt, opened, gate), room))
+    Ok(fixed_report_side_of_free_run(run_board(rt, opened, gate), room))
 }
 
 /// Runs the board of the case with the commitments of its schedule held. The memory that is needed
 /// after the opening of the run is taken before it.
-fn fixed_side<R: Threads + Wait + Sync, G: Gate>(
+fn run_with_fixed_commitments<R: Threads + Wait + Sync, G: Gate>(
     rt: &R,
     alloc: Global,
     given: &Case,
@@ -51,15 +54,15 @@ fn fixed_side<R: Threads + Wait + Sync, G: Gate>(
         ≡ fixed_market (market_of given.now) (setup_of held).plan }
     ensures { IfOk result (IsPaidSide (market_of given.now) (setup_of held)) }
 {
-    let (room, earned) = side_room(alloc, given)?;
+    let (room, earned) = make_side_buffers(alloc, given)?;
     let opened = open_run(alloc, held)?;
-    Ok(settled_side(alloc, given, run_board(rt, opened, gate), room, earned))
+    Ok(fixed_report_side_of_fixed_run(alloc, given, run_board(rt, opened, gate), room, earned))
 }
 
 /// Both runs on these terms to their ends: of the case, and of the case with the commitments of its
 /// schedule held. The first board is gone before the second is opened. `AllocError` is want of
 /// memory, for either; the terms are then dropped.
-pub fn run_free_and_fixed<R: Threads + Wait + Sync, G: Gate>(
+pub fn run_with_free_and_fixed_commitments<R: Threads + Wait + Sync, G: Gate>(
     rt: &R,
     alloc: Global,
     terms: Terms,
@@ -68,11 +71,11 @@ pub fn run_free_and_fixed<R: Threads + Wait + Sync, G: Gate>(
     requires { IsSetup (setup_of terms) }
     ensures { IfOk result (AreSides (setup_of terms)) }
 {
-    commitments_are_fixed();
+    plan_stays_feasible_with_fixed_commitments();
     let cost = terms.cost;
-    let (hull, terms) = hull_side(rt, alloc, terms, gate)?;
-    let (case, held) = hold_commitments(alloc, terms)?;
-    let fixed = fixed_side(rt, alloc, &case, held, gate)?;
+    let (hull, terms) = run_with_free_commitments(rt, alloc, terms, gate)?;
+    let (case, held) = fix_commitments_of_run(alloc, terms)?;
+    let fixed = run_with_fixed_commitments(rt, alloc, &case, held, gate)?;
     Ok(Sides {
         case,
         cost,

@@ -11,5 +11,5 @@ mod fixed;
 mod run;
 
 pub use bound::run_and_bound;
-pub use fixed::run_free_and_fixed;
+pub use fixed::run_with_free_and_fixed_commitments;
 pub use run::{Run, open_run, run_board};

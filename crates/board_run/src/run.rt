@@ -10,14 +10,14 @@ use answer_workers::{Gate, Worker};
 use board_core::{Board, Terms};
 use board_share::SharedBoard;
 use plain_lists::lists::Numbers;
-use plan_settle::{Done, chosen_room, settle_chosen};
+use plan_settle::{Done, make_settlement_buffers_of_run, settle_at_chosen_prices};
 use price_settle::Settlement;
 use std::alloc::{AllocError, Global};
 use std::marker::Model;
 use std::sync::Wait;
 use std::thread::Threads;
 use uc_model::units::Answered;
-use unit_program::most_points;
+use unit_program::most_cost_points_in_case;
 
 /// A run that is opened: its board with a worker for each seat, and room for the settlement, what
 /// each unit earns at best, and an answer. Contracts see it as what its board was made for.
@@ -47,13 +47,16 @@ impl Model for Run {
 }
 
 /// The shared board of a run, with a worker for each of its seats.
-fn staff_board(alloc: Global, terms: Terms) -> Result<(SharedBoard, Vec<Worker>), AllocError>
+fn make_board_with_workers(
+    alloc: Global,
+    terms: Terms,
+) -> Result<(SharedBoard, Vec<Worker>), AllocError>
     requires { IsSetup (setup_of terms) }
     ensures { IfOk result (λ r. IsCrew (setup_of terms) r.0 r.1.items) }
 {
     let callers = terms.callers;
     let periods = terms.case.periods;
-    let points = most_points(&terms.case);
+    let points = most_cost_points_in_case(&terms.case);
     let thermal = terms.case.thermal.len() as u32;
     let board = Board::make(alloc, terms)?;
     let (board, owner) = SharedBoard::make(alloc, board)?;
@@ -67,8 +70,8 @@ pub fn open_run(alloc: Global, terms: Terms) -> Result<Run, AllocError>
     requires { IsSetup (setup_of terms) }
     ensures { IfOk result (λ opened. opened ≡ setup_of terms) }
 {
-    let (buffer, settlement, earned) = chosen_room(alloc, &terms.case)?;
-    let (board, workers) = staff_board(alloc, terms)?;
+    let (buffer, settlement, earned) = make_settlement_buffers_of_run(alloc, &terms.case)?;
+    let (board, workers) = make_board_with_workers(alloc, terms)?;
     Ok(Run {
         board,
         workers,
@@ -91,7 +94,7 @@ pub fn run_board<R: Threads + Wait + Sync, G: Gate>(rt: &R, run: Run, gate: &G) 
         mut earned,
     } = run;
     let (closed, bench) = answer_board(rt, board, workers, gate);
-    settle_chosen(&closed, &mut earned, &mut settlement);
+    settle_at_chosen_prices(&closed, &mut earned, &mut settlement);
     Done {
         closed,
         settlement,

@@ -108,7 +108,7 @@ impl SharedBoard {
         ensures legal { IsLegalHistory (view_of seat.new).setup (view_of seat.new).seen }
         ensures room { IsTaskFor (view_of seat.new).setup.market.periods into.new }
     {
-        self.claim_at(rt, &mut seat.at_table, seat.caller, into)
+        self.claim_task_in_turn(rt, &mut seat.at_table, seat.caller, into)
     }
 
     /// Posts an answer for a task as the seat's caller, with the answers of `Board::post`: the
@@ -135,7 +135,7 @@ impl SharedBoard {
             (task_unit task.now) (answer_of answer.now))) }
         ensures legal { IsLegalHistory (view_of seat.new).setup (view_of seat.new).seen }
     {
-        self.post_at(rt, &mut seat.at_table, seat.caller, task, answer)
+        self.post_answer_in_turn(rt, &mut seat.at_table, seat.caller, task, answer)
     }
 
     /// Halts the seat's caller, as `Board::halt` does. The call waits for its turn, and the seat
@@ -148,7 +148,7 @@ impl SharedBoard {
             (view_of seat.old) (view_of seat.new) }
         ensures legal { IsLegalHistory (view_of seat.new).setup (view_of seat.new).seen }
     {
-        self.halt_at(rt, &mut seat.at_table, seat.caller);
+        self.halt_caller_in_turn(rt, &mut seat.at_table, seat.caller);
     }
 
     /// The next caller's seat, which has seen what the owner's has; none where as many seats were
@@ -197,6 +197,6 @@ impl SharedBoard {
             made: _,
             at_table,
         } = other;
-        self.join_at(&mut seat.at_table, at_table);
+        self.join_table_seats(&mut seat.at_table, at_table);
     }
 }

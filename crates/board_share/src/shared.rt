@@ -38,7 +38,7 @@ pub struct SharedBoard {
 }
 
 impl SharedBoard {
-    fn draw(&self, seat: &mut TableSeat) -> u64
+    fn draw_turn_ticket(&self, seat: &mut TableSeat) -> u64
         requires own { seat.old.table_id ≡ self.now.table.shared.table_id }
         requires ready { seat.old.me.0.stage ≡ idle }
         ensures same { (seat.new.table_id ≡ seat.old.table_id) × (seat.new.id ≡ seat.old.id)
@@ -49,7 +49,7 @@ impl SharedBoard {
         self.table.shared.fetch_add::<Draw>(seat, NEXT, 1)
     }
 
-    fn take_turn<R: Wait>(&self, rt: &R, seat: &mut TableSeat, ticket: u64)
+    fn wait_for_turn_of_ticket<R: Wait>(&self, rt: &R, seat: &mut TableSeat, ticket: u64)
         requires own { seat.old.table_id ≡ self.now.table.shared.table_id }
         requires ready { (seat.old.me.1 ≡ [])
             × ((t : ℕ) × (seat.old.me.0.stage ≡ waits t) × (ticket ≡ t % 2 ^ 64)) }
@@ -99,7 +99,7 @@ impl SharedBoard {
         }
     }
 
-    pub(crate) fn claim_at<R: Wait>(
+    pub(crate) fn claim_task_in_turn<R: Wait>(
         &self,
         rt: &R,
         seat: &mut TableSeat,
@@ -119,8 +119,8 @@ impl SharedBoard {
         ensures room { IsTaskFor seat.old.me.0.setup.market.periods into.new }
         ensures legal { IsLegalHistory seat.new.me.0.setup seat.new.me.0.seen }
     {
-        let ticket = self.draw(seat);
-        self.take_turn(rt, seat, ticket);
+        let ticket = self.draw_turn_ticket(seat);
+        self.wait_for_turn_of_ticket(rt, seat, ticket);
         let board = seat.slot_mut(&self.table.shared, 0);
         let before = board.history().len();
         let answer = board.claim(caller, into);
@@ -129,7 +129,7 @@ impl SharedBoard {
         answer
     }
 
-    pub(crate) fn post_at<R: Wait>(
+    pub(crate) fn post_answer_in_turn<R: Wait>(
         &self,
         rt: &R,
         seat: &mut TableSeat,
@@ -154,8 +154,8 @@ impl SharedBoard {
             (task_unit task.now) (answer_of answer.now)) seat.old.me.0 seat.new.me.0 }
         ensures legal { IsLegalHistory seat.new.me.0.setup seat.new.me.0.seen }
     {
-        let ticket = self.draw(seat);
-        self.take_turn(rt, seat, ticket);
+        let ticket = self.draw_turn_ticket(seat);
+        self.wait_for_turn_of_ticket(rt, seat, ticket);
         let board = seat.slot_mut(&self.table.shared, 0);
         let before = board.history().len();
         let posted = board.post(caller, task, answer);
@@ -164,7 +164,7 @@ impl SharedBoard {
         posted
     }
 
-    pub(crate) fn halt_at<R: Wait>(&self, rt: &R, seat: &mut TableSeat, caller: u32)
+    pub(crate) fn halt_caller_in_turn<R: Wait>(&self, rt: &R, seat: &mut TableSeat, caller: u32)
         requires own { seat.old.table_id ≡ self.now.table.shared.table_id }
         requires ready { (seat.old.me.0.stage ≡ idle) × (seat.old.me.1 ≡ [])
             × (seat.old.me.0.caller ≡ caller) }
@@ -175,8 +175,8 @@ impl SharedBoard {
             seat.new.me.0 }
         ensures legal { IsLegalHistory seat.new.me.0.setup seat.new.me.0.seen }
     {
-        let ticket = self.draw(seat);
-        self.take_turn(rt, seat, ticket);
+        let ticket = self.draw_turn_ticket(seat);
+        self.wait_for_turn_of_ticket(rt, seat, ticket);
         let board = seat.slot_mut(&self.table.shared, 0);
         let before = board.history().len();
         board.halt(caller);
@@ -185,7 +185,7 @@ impl SharedBoard {
     }
 
     // The two read word 0 twice: a join tells nothing, and the second read tells what it came to.
-    pub(crate) fn join_at(&self, seat: &mut TableSeat, other: TableSeat)
+    pub(crate) fn join_table_seats(&self, seat: &mut TableSeat, other: TableSeat)
         requires own { (seat.old.table_id ≡ self.now.table.shared.table_id)
             × (other.table_id ≡ self.now.table.shared.table_id) × (seat.old.id ≡ 0) }
         requires ready { (seat.old.me.0.stage ≡ idle) × (other.me.0.stage ≡ idle)

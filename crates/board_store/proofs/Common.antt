@@ -33,7 +33,8 @@ pub use Rattle.board_store.specs.Board.{Setup, Answer, rules_of, IsRight, row_of
 pub use Rattle.board_store.specs.Board.{IsLegalHistory, IsLegalFor}
 pub use Rattle.board_store.specs.BoardLaws.{Extends, FrontIsClosed, IsOneEventMore, TakenTells, RoundLaws, BoardLaws}
 pub use Rattle.board_store.specs.Calls.{differs_from, own_numbers}
-pub use Rattle.board_store.specs.Laws.{RowsAreMade, FinishedIsRun, FinishedHasRow, FinishedStays, AnswersFit}
+pub use Rattle.board_store.specs.Laws.{EachRowHasAnswerOfEachUnit, FinishedHistoryIsWholeRun, FinishedHasRow}
+pub use Rattle.board_store.specs.Laws.{FinishedStays, AnswersOfHistoryFitTheirTasks}
 pub use Rattle.board_store.specs.Rounds.{Rules, Event, Given, Taken, Closing, Stopped, sooner, first_some, only_at}
 pub use Rattle.board_store.specs.Rounds.{given_by, posted_by, Holders, holders, Posts, posts, with_post, prices_at}
 pub use Rattle.board_store.specs.Rounds.{opened, IsPost, IsNext, GoesOn, IsLegal, is_closed, is_halt, is_finished}
@@ -46,7 +47,7 @@ pub use Rattle.board_store.specs.TaskDifference.{Difference, difference, IsOver,
 pub use Rattle.board_store.specs.Words.{IsOpenTask, IsHeld, IsFirstFree, ClaimSays}
 pub use Rattle.plain_lists.proofs.SignedLaws.{IsWithin, clamped_from, wider}
 pub use Rattle.uc_model.specs.BoundLaws.{GivesWithin, OutputsAreWithin, EarningsAreWithin, UnitsAreWithin}
-pub use Rattle.uc_model.specs.BoundLaws.{TotalsAreWithin, DemandWorthIsWithin}
+pub use Rattle.uc_model.specs.BoundLaws.{PowerAndReserveTotalsAreWithin, DemandWorthIsWithin}
 pub use Rattle.uc_model.specs.Data.{PriceLists, units, unit_count, AnyUnit, Thermal, Flat, Bid, Schedule, Market}
 pub use Rattle.uc_model.specs.Data.{NamedThermalUnit, NamedRenewableUnit, NamedBidUnit, ThermalUnit}
 pub use Rattle.uc_model.specs.Earnings.{earnings, IsBest, IsTop, supply_in}

@@ -14,7 +14,7 @@ use Rattle.board_store.proofs.Common.{next_prices, Fits, int_at, total, floor_di
 use Rattle.board_store.proofs.Common.{total_reserve, IsWithin, clamped_from, Setup, Answer, no_answer, rules_of}
 use Rattle.board_store.proofs.Common.{row_of, schedules_in, earned_in, IsRight, IsLegalHistory, Rules, Event, Posts}
 use Rattle.board_store.proofs.Common.{posts, prices_at, answer_at, answers, rows_of, rows_to}
-use Rattle.board_store.specs.Bounds.{AreWithin, IsRowWithin, RowsAreWithin, RowsAreAtMostCost}
+use Rattle.board_store.specs.Bounds.{AreWithin, IsRowWithin, RowsOfHistoryAreWithinLimits, RowsAreAtMostCost}
 use Rattle.board_store.proofs.Answered.{all_answer}
 use Rattle.board_store.proofs.PostsKept.{rows_length}
 use Rattle.board_store.proofs.OwnTasks.{own_horizon, own_reserve_horizon, not_le_lt}
@@ -220,7 +220,7 @@ module _ (laws : ModelLaws) (b : Setup) (h : List (Event Answer)) (limits : IsMa
 
 -- ---- rows
 
-pub rows_are_within : ModelLaws → RowsAreWithin
+pub rows_are_within : ModelLaws → RowsOfHistoryAreWithinLimits
 rows_are_within laws b h limits ahead legal k d inside =
     subst (λ (r : Proposal). IsRowWithin b.market r) (sym (rows_are_made b h ahead k d inside).made)
     (row_within laws b h limits legal (suc k))

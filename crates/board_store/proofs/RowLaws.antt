@@ -9,8 +9,10 @@ use Rattle.board_store.proofs.Common.{free_front, opened, is_finished, AnyUnit, 
 use Rattle.board_store.proofs.Common.{Schedule, Market, NamedThermalUnit, NamedRenewableUnit, NamedBidUnit, units}
 use Rattle.board_store.proofs.Common.{unit_count, IsBest, IsTop, earnings, Proposal, no_prices, price_rule}
 use Rattle.board_store.proofs.Common.{is_settled, Fits, IsNextRow, AreRightRows, IsRun, Setup, Answer, row_of}
-use Rattle.board_store.proofs.Common.{rules_of, schedules_in, earned_in, IsRight, IsLegalFor, RowsAreMade}
-use Rattle.board_store.proofs.Common.{FinishedIsRun, FinishedHasRow, FinishedStays, AnswersFit}
+use Rattle.board_store.proofs.Common.{rules_of, schedules_in, earned_in, IsRight, IsLegalFor}
+use Rattle.board_store.proofs.Common.{EachRowHasAnswerOfEachUnit}
+use Rattle.board_store.proofs.Common.{FinishedHistoryIsWholeRun, FinishedHasRow, FinishedStays}
+use Rattle.board_store.proofs.Common.{AnswersOfHistoryFitTheirTasks}
 use Rattle.board_store.proofs.Answered.{all_answer}
 use Rattle.board_store.proofs.Fronts.{front_le}
 use Rattle.board_store.proofs.PostsKept.{post_of, rows_length, rows_take, row_at, front_closed}
@@ -173,14 +175,14 @@ module _ (fits : AnyUnit → PriceLists → Schedule → Type 0)
               ];
         }
 
-  pub finished_is_run : FinishedIsRun fits
+  pub finished_is_run : FinishedHistoryIsWholeRun fits
   finished_is_run b h ahead some legal finished = whole_run b h ahead legal some finished
 
 -- an answer is best, whether each best one fits or the least alone
 pub fits_is_best : (u : AnyUnit) (π : PriceLists) (s : Schedule) → Fits u π s → IsBest u π s
 fits_is_best u π s h = assumption h
 
-pub run_fits : FinishedIsRun Fits
+pub run_fits : FinishedHistoryIsWholeRun Fits
 run_fits = finished_is_run Fits fits_is_best
 
 pub stays_finished : FinishedStays Fits
@@ -195,13 +197,13 @@ has_row s ahead some finished =
     let enough = leb-true (opened g p) (closed_front g p) finished in
     omega (arith, enough, ahead, some, rows_length g p (closed_front g p))
 
-pub answers_fit_now : AnswersFit
+pub answers_fit_now : AnswersOfHistoryFitTheirTasks
 answers_fit_now b h n u x legal is =
     let a = all_answer (rules_of b) (IsRight Fits b.market) (row_of b.market no_prices []) h legal n u x is in
     record { from_one = a.from_one; open_ = a.open_; unit = a.unit; right = a.fit }
 
 -- a row is made of an answer for each unit, at the prices of its proposal
-pub rows_are_made : RowsAreMade
+pub rows_are_made : EachRowHasAnswerOfEachUnit
 rows_are_made b h ahead k d inside =
     let g = rules_of b in
     let low : k < closed_front g (posts h) =

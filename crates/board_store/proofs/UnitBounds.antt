@@ -1,6 +1,7 @@
 -- How large the earnings of one unit's feasible schedule can be, and what a schedule that is missing gives.
 use Rattle.board_store.proofs.Common.{◌≡◌, ℕ, pos, length, sym, ap, subst, arith, ints, slice_index, GivesWithin}
-use Rattle.board_store.proofs.Common.{OutputsAreWithin, EarningsAreWithin, UnitsAreWithin, TotalsAreWithin}
+use Rattle.board_store.proofs.Common.{OutputsAreWithin, EarningsAreWithin, UnitsAreWithin}
+use Rattle.board_store.proofs.Common.{PowerAndReserveTotalsAreWithin}
 use Rattle.board_store.proofs.Common.{DemandWorthIsWithin, AnyUnit, Thermal, Flat, Bid, PriceLists, Schedule}
 use Rattle.board_store.proofs.Common.{earnings, IsUnit, ArePrices, IsFeasible, IsWithin, wider}
 
@@ -9,10 +10,11 @@ pub record ModelLaws : Type 0 where
   pub outputs : OutputsAreWithin
   pub earnings : EarningsAreWithin
   pub units : UnitsAreWithin
-  pub totals : TotalsAreWithin
+  pub totals : PowerAndReserveTotalsAreWithin
   pub worth : DemandWorthIsWithin
 
-pub model_laws : OutputsAreWithin → EarningsAreWithin → UnitsAreWithin → TotalsAreWithin → DemandWorthIsWithin →
+pub model_laws : OutputsAreWithin → EarningsAreWithin → UnitsAreWithin → PowerAndReserveTotalsAreWithin →
+    DemandWorthIsWithin →
     ModelLaws
 model_laws outputs earnings units totals worth =
     record { outputs = outputs; earnings = earnings; units = units; totals = totals; worth = worth }

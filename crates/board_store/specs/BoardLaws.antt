@@ -4,9 +4,9 @@ use Rattle.std.specs.Prelude.{◌≡◌, ℕ, suc, ◌+◌, ◌<◌, ◌≤◌, 
 use Rattle.std.specs.Prelude.{None, List, [], ◌∷◌, ◌++◌, ◌⊎◌, ℤ, length, take, slice_get}
 use Rattle.board_store.specs.Board.{Setup, Answer, Content, no_answer, rules_of, IsRight}
 use Rattle.board_store.specs.Board.{IsLegalHistory}
-use Rattle.board_store.specs.Bounds.{TotalsAreWithin, RowsAreWithin, RowsAreAtMostCost}
+use Rattle.board_store.specs.Bounds.{TotalsAreWithin, RowsOfHistoryAreWithinLimits, RowsAreAtMostCost}
 use Rattle.board_store.specs.Calls.{post_answer}
-use Rattle.board_store.specs.Laws.{ClaimsMean, AnswersFit}
+use Rattle.board_store.specs.Laws.{ClaimAnswersTellBoardState, AnswersOfHistoryFitTheirTasks}
 use Rattle.board_store.specs.Rounds.{Event, Given, Taken, Closing, Stopped, sooner, only_at}
 use Rattle.board_store.specs.Rounds.{Holders, holders, Posts, posts, with_post, rows_by}
 use Rattle.board_store.specs.Rounds.{prices_by, opened_in, is_closed, rows_to, prices_at}
@@ -166,10 +166,10 @@ pub record BoardLaws : Type 0 where
   pub one_event : (h : List (Event Answer)) (e : Event Answer) → IsOneEventMore h e
   pub next_is_legal : NextIsLegal
   pub taken_tells : TakenTells
-  pub claims_mean : ClaimsMean
-  pub answers_fit : AnswersFit
+  pub claims_mean : ClaimAnswersTellBoardState
+  pub answers_fit : AnswersOfHistoryFitTheirTasks
   pub totals_are_within : TotalsAreWithin
-  pub rows_are_within : RowsAreWithin
+  pub rows_are_within : RowsOfHistoryAreWithinLimits
   pub rows_are_at_most_cost : RowsAreAtMostCost
 
 -- ---- where two lists differ
@@ -183,5 +183,5 @@ pub record DifferenceSays (own given : List ℤ) : Type 0 where
   pub none : ((i : ℕ) → i < length own → i < length given → int_at own i ≡ int_at given i) →
       difference own given ≡ None
 
-abbrev pub DifferencesMean : Type 0
-DifferencesMean = (own given : List ℤ) → DifferenceSays own given
+abbrev pub ListsDifferAtFirstUnequalNumber : Type 0
+ListsDifferAtFirstUnequalNumber = (own given : List ℤ) → DifferenceSays own given

@@ -35,8 +35,8 @@ pub record IsRowWithin (m : Market) (r : Proposal) : Type 0 where
   pub reserve : All IsTotal r.reserve
   pub value : IsWorth r.value
 
-abbrev pub RowsAreWithin : Type 0
-RowsAreWithin =
+abbrev pub RowsOfHistoryAreWithinLimits : Type 0
+RowsOfHistoryAreWithinLimits =
     (b : Setup) (h : List (Event Answer)) → IsMarket b.market → 1 ≤ b.ahead → IsLegalHistory b h →
     (k : ℕ) (d : Proposal) → k < length (rows_of (rules_of b) (posts h)) →
     IsRowWithin b.market (slice_index_or (rows_of (rules_of b) (posts h)) k d)

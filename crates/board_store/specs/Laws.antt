@@ -12,14 +12,14 @@ use Rattle.uc_model.specs.Runs.{Fits, IsRun}
 
 -- ---- what each answer of a claim says
 
-abbrev pub ClaimsMean : Type 0
-ClaimsMean = (b : Setup) (h : List (Event Answer)) → ClaimSays (rules_of b) h
+abbrev pub ClaimAnswersTellBoardState : Type 0
+ClaimAnswersTellBoardState = (b : Setup) (h : List (Event Answer)) → ClaimSays (rules_of b) h
 
 -- ---- the rows of a legal history
 
 -- where the history is finished they are a whole run
-abbrev pub FinishedIsRun : (AnyUnit → PriceLists → Schedule → Type 0) → Type 0
-FinishedIsRun fits =
+abbrev pub FinishedHistoryIsWholeRun : (AnyUnit → PriceLists → Schedule → Type 0) → Type 0
+FinishedHistoryIsWholeRun fits =
     (b : Setup) (h : List (Event Answer)) → 1 ≤ b.ahead → 1 ≤ unit_count b.market →
     IsLegalFor fits b h →
     is_finished (rules_of b) (posts h) ≡ true →
@@ -38,8 +38,8 @@ pub record IsRowOf (b : Setup) (h : List (Event Answer)) (k : ℕ) (row : Propos
       (answers (rules_of b) (posts h) (suc k))
   pub each : (u : ℕ) → u < unit_count b.market → (x : ℕ × Answer) × (posts h (suc k) u ≡ Some x)
 
-abbrev pub RowsAreMade : Type 0
-RowsAreMade =
+abbrev pub EachRowHasAnswerOfEachUnit : Type 0
+EachRowHasAnswerOfEachUnit =
     (b : Setup) (h : List (Event Answer)) → 1 ≤ b.ahead → (k : ℕ) (d : Proposal) →
     k < length (rows_of (rules_of b) (posts h)) →
     IsRowOf b h k (slice_index_or (rows_of (rules_of b) (posts h)) k d)
@@ -53,8 +53,8 @@ pub record IsAnswered (b : Setup) (h : List (Event Answer)) (n u : ℕ) (a : Ans
   pub unit : u < unit_count b.market
   pub right : IsRight Fits b.market u (prices_at (rules_of b) (posts h) n) a
 
-abbrev pub AnswersFit : Type 0
-AnswersFit =
+abbrev pub AnswersOfHistoryFitTheirTasks : Type 0
+AnswersOfHistoryFitTheirTasks =
     (b : Setup) (h : List (Event Answer)) (n u : ℕ) (x : ℕ × Answer) → IsLegalHistory b h →
     posts h n u ≡ Some x → IsAnswered b h n u x.1
 

@@ -36,7 +36,7 @@ pub record IsTask (π : PriceLists) (u : AnyUnit) : Type 0 where
   pub reserve : length π.reserve ≡ length π.energy
   pub over : IsOver (length π.energy) u
 
--- tasks whose lists have the same number at each place that both have are one task
+-- tasks whose lists have the same number at each place that both have are of the same prices and the same unit
 abbrev pub SameTask : Type 0
 SameTask =
     (π ρ : PriceLists) (u v : AnyUnit) → IsTask π u → IsTask ρ v →

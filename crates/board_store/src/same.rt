@@ -59,7 +59,7 @@ fn same_points(a: &[Point], b: &[Point]) -> bool
     true
 }
 
-fn same_marks(a: &[Mark], b: &[Mark]) -> bool
+fn same_window_marks(a: &[Mark], b: &[Mark]) -> bool
     ensures { IsTrue result ↔ (a.now ≡ b.now) }
 {
     if a.len() != b.len() {
@@ -93,7 +93,7 @@ fn same_blocks(a: &[Block], b: &[Block]) -> bool
     true
 }
 
-fn same_periods(a: &BlockLists, b: &BlockLists) -> bool
+fn same_bid_blocks(a: &BlockLists, b: &BlockLists) -> bool
     ensures { IsTrue result ↔ (map items_in a.now.items ≡ map items_in b.now.items) }
 {
     if a.len() != b.len() {
@@ -109,7 +109,7 @@ fn same_periods(a: &BlockLists, b: &BlockLists) -> bool
 
 // How many numbers the flat lists of two bids' blocks begin with alike, up to the first period with
 // other blocks.
-fn count_alike_periods(a: &BlockLists, b: &BlockLists) -> u32
+fn count_equal_leading_bid_numbers(a: &BlockLists, b: &BlockLists) -> u32
     requires few { length a.now.items ≤ MOST_PERIODS }
     requires counts { All (λ bs. length bs.items ≤ MOST_BLOCKS) a.now.items }
     ensures { AreSame (flat_map period_numbers (map items_in a.now.items))
@@ -128,7 +128,7 @@ fn count_alike_periods(a: &BlockLists, b: &BlockLists) -> u32
 
 /// How many numbers the flat lists of two tasks begin with alike, as far as that is seen at once:
 /// up to the first period with other blocks where both are of bids at the same prices.
-pub fn count_alike(own: &Task, task: &Task) -> u32
+pub fn count_equal_leading_task_numbers(own: &Task, task: &Task) -> u32
     ensures { AreSame (task_numbers (prices_of own.now.prices) (task_unit own.now))
         (task_numbers (prices_of task.now.prices) (task_unit task.now)) result }
 {
@@ -142,10 +142,10 @@ pub fn count_alike(own: &Task, task: &Task) -> u32
         return 0;
     }
     let prices = (own.prices.energy.len() + own.prices.reserve.len()) as u32;
-    2 + prices + count_alike_periods(&own.bid.blocks, &task.bid.blocks)
+    2 + prices + count_equal_leading_bid_numbers(&own.bid.blocks, &task.bid.blocks)
 }
 
-fn same_powers(a: &Unit, b: &Unit) -> bool
+fn same_power_limits(a: &Unit, b: &Unit) -> bool
     ensures { IsTrue result ↔ HaveSamePowers (thermal_of a.now) (thermal_of b.now) }
 {
     a.min_power == b.min_power
@@ -157,7 +157,7 @@ fn same_powers(a: &Unit, b: &Unit) -> bool
         && a.power0 == b.power0
 }
 
-fn same_times(a: &Unit, b: &Unit) -> bool
+fn same_up_and_down_times(a: &Unit, b: &Unit) -> bool
     ensures { IsTrue result ↔ HaveSameTimes (thermal_of a.now) (thermal_of b.now) }
 {
     if a.must_run != b.must_run || a.on0 != b.on0 {
@@ -169,14 +169,14 @@ fn same_times(a: &Unit, b: &Unit) -> bool
 fn same_thermal(a: &Unit, b: &Unit) -> bool
     ensures { IsTrue result ↔ (thermal_of a.now ≡ thermal_of b.now) }
 {
-    same_powers(a, b)
-        && same_times(a, b)
+    same_power_limits(a, b)
+        && same_up_and_down_times(a, b)
         && same_lags(a.lags.as_slice(), b.lags.as_slice())
         && same_points(a.points.as_slice(), b.points.as_slice())
-        && same_marks(a.window.as_slice(), b.window.as_slice())
+        && same_window_marks(a.window.as_slice(), b.window.as_slice())
 }
 
-fn same_flat(a: &Renewable, b: &Renewable) -> bool
+fn same_renewable(a: &Renewable, b: &Renewable) -> bool
     ensures { IsTrue result ↔ (renewable_of a.now ≡ renewable_of b.now) }
 {
     same_numbers(a.least.as_slice(), b.least.as_slice())
@@ -192,15 +192,15 @@ pub fn same_prices(a: &Prices, b: &Prices) -> bool
 }
 
 /// Whether a task's unit is the one of that number in the case: where it says so, it is.
-pub fn is_unit_of(case: &Case, unit: u32, task: &Task) -> bool
+pub fn is_task_unit_same_as_case_unit(case: &Case, unit: u32, task: &Task) -> bool
     requires { unit < unit_count (market_of case.now) }
     ensures { IsTrue result → slice_get (units (market_of case.now)) unit
         ≡ Some (task_unit task.now) }
 {
     match (case.unit_at(unit as usize).unit, task.kind) {
         (UnitRef::Thermal(own), UnitKind::Thermal) => same_thermal(own, &task.thermal),
-        (UnitRef::Renewable(own), UnitKind::Flat) => same_flat(own, &task.flat),
-        (UnitRef::Bid(own), UnitKind::Bid) => same_periods(&own.blocks, &task.bid.blocks),
+        (UnitRef::Renewable(own), UnitKind::Flat) => same_renewable(own, &task.flat),
+        (UnitRef::Bid(own), UnitKind::Bid) => same_bid_blocks(&own.blocks, &task.bid.blocks),
         _ => false,
     }
 }

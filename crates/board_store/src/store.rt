@@ -48,7 +48,7 @@ impl Model for Store {
     ghost invariant = { λ s. AreParts s.on s.power s.reserve s.earned.items };
 }
 
-fn no_earnings(alloc: Global, count: usize) -> Result<Vec<i64>, AllocError>
+fn make_zero_earnings(alloc: Global, count: usize) -> Result<Vec<i64>, AllocError>
     ensures { IfOk result (λ v. v.items ≡ replicate count (pos 0)) }
 {
     vec![in alloc; 0; count]
@@ -67,7 +67,7 @@ impl Store {
         let on = Table::make(alloc, count, periods, false)?;
         let power = Table::make(alloc, count, periods, 0)?;
         let reserve = Table::make(alloc, count, periods, 0)?;
-        let earned = no_earnings(alloc, count)?;
+        let earned = make_zero_earnings(alloc, count)?;
         Ok(Store {
             on,
             power,

@@ -73,14 +73,14 @@ impl<T> Model for Table<T> {
         (vec_capacity t.lengths) (vec_capacity t.values) };
 }
 
-fn no_starts(alloc: Global, count: usize) -> Result<Vec<u32>, AllocError>
+fn make_zero_run_starts(alloc: Global, count: usize) -> Result<Vec<u32>, AllocError>
     ensures { IfOk result (λ v. v.items ≡ replicate count 0) }
 {
     vec![in alloc; 0; count]
 }
 
 // Adds the runs of so many copies of a value behind others, where there is room for as many runs.
-fn add_runs<T: Cell>(lengths: &mut Vec<u8>, values: &mut Vec<T>, count: usize, value: T)
+fn append_runs_of_value<T: Cell>(lengths: &mut Vec<u8>, values: &mut Vec<T>, count: usize, value: T)
     requires pairs { length lengths.old.items ≡ length values.old.items }
     requires lengths_room { vec_len lengths.old + count ≤ vec_capacity lengths.old }
     requires values_room { vec_len values.old + count ≤ vec_capacity values.old }
@@ -117,11 +117,11 @@ fn append_row<T: Cell>(lengths: &mut Vec<u8>, values: &mut Vec<T>, row: &[T])
             count += 1;
             continue;
         }
-        add_runs(lengths, values, count, value);
+        append_runs_of_value(lengths, values, count, value);
         value = *cell;
         count = 1;
     }
-    add_runs(lengths, values, count, value);
+    append_runs_of_value(lengths, values, count, value);
 }
 
 // Whether all cells are the same as one. All are looked at, which takes fewer instructions than to
@@ -139,7 +139,12 @@ fn are_cells_all<T: Cell>(cells: &[T], value: T) -> bool
 // Says yes only where a row is at an index in runs that take one period each, as that of a unit whose
 // powers differ from period to period. To see so takes fewer instructions than to go from run to
 // run, and fewer where all are looked at than to stop at one that differs.
-fn has_cells<T: Cell>(lengths: &[u8], values: &[T], start: usize, row: &[T]) -> bool
+fn is_row_in_runs_of_one_period<T: Cell>(
+    lengths: &[u8],
+    values: &[T],
+    start: usize,
+    row: &[T],
+) -> bool
     requires pairs { length lengths.now ≡ length values.now }
     ensures { IsTrue result → row_at (length row.now) lengths.now values.now start ≡ row.now }
 {
@@ -154,12 +159,12 @@ fn has_cells<T: Cell>(lengths: &[u8], values: &[T], start: usize, row: &[T]) -> 
 }
 
 // Whether a row is the one whose runs begin at an index.
-fn is_row<T: Cell>(lengths: &[u8], values: &[T], start: usize, row: &[T]) -> bool
+fn are_runs_equal_to_row<T: Cell>(lengths: &[u8], values: &[T], start: usize, row: &[T]) -> bool
     requires pairs { length lengths.now ≡ length values.now }
     requires whole { length row.now ≤ length (from_run lengths.now values.now start) }
     ensures { IsTrue result ↔ (row_at (length row.now) lengths.now values.now start ≡ row.now) }
 {
-    if has_cells(lengths, values, start, row) {
+    if is_row_in_runs_of_one_period(lengths, values, start, row) {
         return true;
     }
     let mut at = start;
@@ -177,7 +182,12 @@ fn is_row<T: Cell>(lengths: &[u8], values: &[T], start: usize, row: &[T]) -> boo
 
 // Where the runs of a row begin: where those of another do, which may well be the same, at the first
 // run, or behind all runs, where they are then added.
-fn start_of_runs<T: Cell>(lengths: &mut Vec<u8>, values: &mut Vec<T>, like: u32, row: &[T]) -> u32
+fn find_or_append_runs_of_row<T: Cell>(
+    lengths: &mut Vec<u8>,
+    values: &mut Vec<T>,
+    like: u32,
+    row: &[T],
+) -> u32
     requires pairs { length lengths.old.items ≡ length values.old.items }
     requires like { length row.now ≤ length (from_run lengths.old.items values.old.items like) }
     requires first { length row.now ≤ length (from_run lengths.old.items values.old.items 0) }
@@ -190,10 +200,10 @@ fn start_of_runs<T: Cell>(lengths: &mut Vec<u8>, values: &mut Vec<T>, like: u32,
     ensures lengths_capacity { vec_capacity lengths.old ≤ vec_capacity lengths.new }
     ensures values_capacity { vec_capacity values.old ≤ vec_capacity values.new }
 {
-    if is_row(lengths.as_slice(), values.as_slice(), like as usize, row) {
+    if are_runs_equal_to_row(lengths.as_slice(), values.as_slice(), like as usize, row) {
         return like;
     }
-    if is_row(lengths.as_slice(), values.as_slice(), 0, row) {
+    if are_runs_equal_to_row(lengths.as_slice(), values.as_slice(), 0, row) {
         return 0;
     }
     let behind = values.len() as u32;
@@ -202,7 +212,7 @@ fn start_of_runs<T: Cell>(lengths: &mut Vec<u8>, values: &mut Vec<T>, like: u32,
 }
 
 // Adds so many copies where there is room for them.
-fn add_copies<T: Cell>(into: &mut ReservedList<T>, count: usize, value: T)
+fn push_copies_of_value<T: Cell>(into: &mut ReservedList<T>, count: usize, value: T)
     requires { count ≤ into.old.spare }
     ensures items { into.new.items ≡ into.old.items ++ replicate count value }
     ensures spare { into.new.spare + count ≡ into.old.spare }
@@ -213,7 +223,7 @@ fn add_copies<T: Cell>(into: &mut ReservedList<T>, count: usize, value: T)
 }
 
 // Adds the row whose runs begin at an index.
-fn add_row<T: Cell>(
+fn expand_runs_into_row<T: Cell>(
     lengths: &[u8],
     values: &[T],
     start: usize,
@@ -229,7 +239,7 @@ fn add_row<T: Cell>(
     let mut left = long;
     while left > 0 {
         let count = left.min(lengths[at] as usize);
-        add_copies(into, count, values[at]);
+        push_copies_of_value(into, count, values[at]);
         left -= count;
         at += 1;
     }
@@ -246,10 +256,10 @@ impl<T: Cell> Table<T> {
     {
         let long = long as usize;
         let room = count * long + long;
-        let starts = no_starts(alloc, count)?;
+        let starts = make_zero_run_starts(alloc, count)?;
         let mut lengths = Vec::with_capacity(alloc, room)?;
         let mut values = Vec::with_capacity(alloc, room)?;
-        add_runs(&mut lengths, &mut values, long, blank);
+        append_runs_of_value(&mut lengths, &mut values, long, blank);
         Ok(Table {
             long,
             starts,
@@ -271,7 +281,7 @@ impl<T: Cell> Table<T> {
         ensures left { self.old.left ≤ self.new.left + 1 }
     {
         let like = self.starts[like];
-        let start = start_of_runs(&mut self.lengths, &mut self.values, like, row);
+        let start = find_or_append_runs_of_row(&mut self.lengths, &mut self.values, like, row);
         self.starts[index] = start;
         self.used += 1;
     }
@@ -285,6 +295,6 @@ impl<T: Cell> Table<T> {
     {
         into.clear();
         let start = self.starts[index] as usize;
-        add_row(&self.lengths, &self.values, start, self.long, into);
+        expand_runs_into_row(&self.lengths, &self.values, start, self.long, into);
     }
 }

@@ -9,7 +9,7 @@ use Rattle.bundle_columns.proofs.Keeping.{AreKeptOf, some_item}
 use Rattle.bundle_columns.proofs.Rescheduling.{IsFit}
 use Rattle.plain_lists.proofs.ListLaws.{length_same}
 use Rattle.plain_lists.specs.Reserved.{Reserved}
-use Rattle.uc_model.specs.PlanLaws.{UnitsAreNumbered}
+use Rattle.uc_model.specs.PlanLaws.{UnitNumbersGoByKind}
 
 pub place_within : {X : Type 0} (xs : List X) (k : ℕ) (x : X) → slice_get xs k ≡ Some x → k < length xs
 place_within [] k x at = absurd (none_some x at)
@@ -43,7 +43,7 @@ over_at periods places g es k e h at =
     (map_item entry_of es.items k e at)).schedule.on
 
 -- what is feasible for the unit of a number is so for the thermal unit of that number
-pub fit_at : UnitsAreNumbered → (m : Market) (i : ℕ) (u : AnyUnit) (s : Schedule) → i < length m.thermal →
+pub fit_at : UnitNumbersGoByKind → (m : Market) (i : ℕ) (u : AnyUnit) (s : Schedule) → i < length m.thermal →
     slice_get (units m) i ≡ Some u → IsFeasible u m.periods s → IsFitAt m i s
 fit_at numbered m i u s lt at f =
     let some = some_item m.thermal i lt in

@@ -46,7 +46,7 @@ pub(crate) fn copied_response(alloc: Global, from: &Response) -> Result<Response
 }
 
 // Leaves an entry in another over as many periods.
-fn copy_entry(from: &Entry, into: &mut Entry)
+fn copy_mixture_entry(from: &Entry, into: &mut Entry)
     requires { length (schedule_of from.now.response).on ≡ length (schedule_of into.old.response).on }
     ensures { entry_of into.new ≡ entry_of from.now }
 {
@@ -55,12 +55,12 @@ fn copy_entry(from: &Entry, into: &mut Entry)
 }
 
 // Leaves entries in as many others.
-fn copy_entries(from: &Entries, into: &mut Entries)
+fn copy_mixture_entries(from: &Entries, into: &mut Entries)
     requires { AreAlike (entries_of from.now) (entries_of into.old) }
     ensures { entries_of into.new ≡ entries_of from.now }
 {
     for index in 0..from.len() {
-        copy_entry(from.get(index), into.get_mut(index));
+        copy_mixture_entry(from.get(index), into.get_mut(index));
     }
 }
 
@@ -71,6 +71,6 @@ pub fn copy_mixture(case: &Case, places: usize, from: &Mixture, into: &mut Mixtu
     ensures { mixture_of into.new ≡ mixture_of from.now }
 {
     for number in 0..from.thermal.len() {
-        copy_entries(from.thermal.get(number), into.thermal.get_mut(number));
+        copy_mixture_entries(from.thermal.get(number), into.thermal.get_mut(number));
     }
 }

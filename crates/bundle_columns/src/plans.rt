@@ -15,7 +15,11 @@ use uc_model::cases::{Case, Plan};
 use uc_model::units::Response;
 
 // So many entries of one response: the first has the whole weight, and the others have none.
-fn entries_of_one(alloc: Global, from: &Response, places: u32) -> Result<Entries, AllocError>
+fn entries_of_one_response(
+    alloc: Global,
+    from: &Response,
+    places: u32,
+) -> Result<Entries, AllocError>
     requires some { 1 ≤ places }
     requires periods { length (schedule_of from.now).on ≤ MOST_PERIODS }
     ensures { IfOk result (λ entries. AreOfOne places (schedule_of from.now)
@@ -38,7 +42,7 @@ fn entries_of_one(alloc: Global, from: &Response, places: u32) -> Result<Entries
 }
 
 /// The plan as a mixture with so many entries for each thermal unit.
-pub fn plan_mixture(
+pub fn mixture_of_plan(
     alloc: Global,
     case: &Case,
     plan: &Plan,
@@ -50,7 +54,7 @@ pub fn plan_mixture(
 {
     let mut thermal = EntryLists::make(alloc, case.thermal.len() as u32)?;
     for number in 0..case.thermal.len() {
-        thermal.push(entries_of_one(alloc, plan.responses.get(number), places)?);
+        thermal.push(entries_of_one_response(alloc, plan.responses.get(number), places)?);
     }
     Ok(Mixture {
         weight: WHOLE,

@@ -12,7 +12,7 @@ ghost use Rattle.bundle_columns.specs.Pools.{IsPool, places_in};
 ghost use Rattle.bundle_columns.specs.Weights.{rescheduled, IsFitAt};
 
 use crate::copies::copy_response;
-use crate::weights::{WHOLE, deal_weights};
+use crate::weights::{WHOLE, redistribute_entry_weights};
 use bundle_master::master::Master;
 use bundle_master::numbers::floor_within;
 use gap_proof::{Entries, Mixture};
@@ -74,7 +74,7 @@ fn copy_powers(from: &Powers, into: &mut Numbers)
 }
 
 // Writes the schedule of the entry at an index.
-fn set_schedule(entries: &mut Entries, index: usize, response: &Response)
+fn write_schedule_of_entry(entries: &mut Entries, index: usize, response: &Response)
     requires index { index < length entries.old.items }
     requires horizon { (d : Entry) → slice_get entries.old.items index ≡ Some d
         → length (schedule_of d.response).on ≡ length (schedule_of response.now).on }
@@ -93,7 +93,7 @@ fn set_column(pool: &mut Pool, case: &Case, number: usize, index: usize, respons
     ensures { IsPool (market_of case.now) (places_in pool.old) pool.new }
 {
     let cost = column_cost(&case.thermal.get(number).unit, response);
-    set_schedule(pool.columns.thermal.get_mut(number), index, response);
+    write_schedule_of_entry(pool.columns.thermal.get_mut(number), index, response);
     copy_powers(&response.power, &mut pool.power);
     copy_powers(&response.reserve, &mut pool.reserve);
     let power = pool.power.as_slice();
@@ -103,57 +103,62 @@ fn set_column(pool: &mut Pool, case: &Case, number: usize, index: usize, respons
 
 /// Keeps a feasible schedule of the thermal unit of a number as a column, where it is a new one;
 /// tells whether it is. Where there is no free place it takes that of another.
-pub fn keep_column(pool: &mut Pool, case: &Case, number: usize, response: &Response) -> bool
+pub fn add_column_if_new(pool: &mut Pool, case: &Case, number: usize, response: &Response) -> bool
     requires pool { IsPool (market_of case.now) (places_in pool.old) pool.old }
     requires fit { IsFitAt (market_of case.now) number (schedule_of response.now) }
     ensures { IsPool (market_of case.now) (places_in pool.old) pool.new }
 {
-    let count = pool.master.count(number);
+    let count = pool.master.column_count(number);
     if is_among_entries(pool.columns.thermal.get(number), count, response) {
         return false;
     }
-    let index = pool.master.next_place(number);
+    let index = pool.master.next_column_index(number);
     set_column(pool, case, number, index, response);
     true
 }
 
 /// The same for the unit of a number, of which only a thermal one has columns.
-pub fn keep_answer(pool: &mut Pool, case: &Case, number: usize, response: &Response) -> bool
+pub fn add_answer_as_column(
+    pool: &mut Pool,
+    case: &Case,
+    number: usize,
+    response: &Response,
+) -> bool
     requires pool { IsPool (market_of case.now) (places_in pool.old) pool.old }
     requires fit { number < length (market_of case.now).thermal
         → IsFitAt (market_of case.now) number (schedule_of response.now) }
     ensures { IsPool (market_of case.now) (places_in pool.old) pool.new }
 {
     if number < case.thermal.len() {
-        return keep_column(pool, case, number, response);
+        return add_column_if_new(pool, case, number, response);
     }
     false
 }
 
 // Reads the shares of a unit's columns as weights.
-fn read_shares(master: &Master, number: usize, wanted: &mut Numbers)
+fn read_master_shares(master: &Master, number: usize, wanted: &mut Numbers)
     requires number { number < master.now.thermal }
     requires places { length wanted.old.items ≡ master.now.places }
     ensures { length wanted.new.items ≡ length wanted.old.items }
 {
-    let count = master.count(number);
+    let count = master.column_count(number);
     for index in 0..wanted.len() {
         let mut weight = 0;
         if index < count {
-            weight = floor_within(1e12 * master.share(number, index) + 0.5, 0, WHOLE);
+            weight = floor_within(1e12 * master.column_share(number, index) + 0.5, 0, WHOLE);
         }
         wanted.set(index, weight);
     }
 }
 
 // Gives the columns of a unit the weights that are their shares.
-fn weigh_unit(pool: &mut Pool, case: &Case, number: usize)
+fn weigh_columns_of_unit(pool: &mut Pool, case: &Case, number: usize)
     requires pool { IsPool (market_of case.now) (places_in pool.old) pool.old }
     requires number { number < length (market_of case.now).thermal }
     ensures { IsPool (market_of case.now) (places_in pool.old) pool.new }
 {
-    read_shares(&pool.master, number, &mut pool.wanted);
-    deal_weights(pool.columns.thermal.get_mut(number), &pool.wanted);
+    read_master_shares(&pool.master, number, &mut pool.wanted);
+    redistribute_entry_weights(pool.columns.thermal.get_mut(number), &pool.wanted);
 }
 
 /// Gives the columns the weights that are their shares in the master problem.
@@ -162,6 +167,6 @@ pub fn weigh_columns(pool: &mut Pool, case: &Case)
     ensures { IsPool (market_of case.now) (places_in pool.old) pool.new }
 {
     for number in 0..case.thermal.len() {
-        weigh_unit(pool, case, number);
+        weigh_columns_of_unit(pool, case, number);
     }
 }

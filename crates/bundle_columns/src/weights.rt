@@ -28,7 +28,7 @@ fn set_weight(entries: &mut Entries, index: usize, weight: i64)
 }
 
 // A weight without a part of it.
-fn less_by(weight: i64, amount: i64) -> i64
+fn difference_of_weights(weight: i64, amount: i64) -> i64
     requires weight { weight ≤ℤ most_whole }
     requires amount { IsFrom (pos 0) weight amount }
     ensures { result ≡ weight -ℤ amount }
@@ -37,7 +37,7 @@ fn less_by(weight: i64, amount: i64) -> i64
 }
 
 // A weight with another.
-fn more_by(weight: i64, amount: i64) -> i64
+fn sum_of_two_weights(weight: i64, amount: i64) -> i64
     requires weight { IsFrom (pos 0) most_whole weight }
     requires amount { IsFrom (pos 0) most_whole amount }
     ensures { result ≡ weight +ℤ amount }
@@ -55,14 +55,14 @@ fn move_weight(entries: &mut Entries, from: usize, to: usize, amount: i64)
     ensures shares { AreShares most_whole (entries_of entries.new) }
     ensures count { length entries.new.items ≡ length entries.old.items }
 {
-    let given = less_by(weight_at(entries, from), amount);
+    let given = difference_of_weights(weight_at(entries, from), amount);
     set_weight(entries, from, given);
-    let taken = more_by(weight_at(entries, to), amount);
+    let taken = sum_of_two_weights(weight_at(entries, to), amount);
     set_weight(entries, to, taken);
 }
 
 // Moves all weight to one entry.
-fn gather_weight(entries: &mut Entries, base: usize)
+fn move_all_weight_to_entry(entries: &mut Entries, base: usize)
     requires base { base < length entries.old.items }
     requires shares { AreShares most_whole (entries_of entries.old) }
     ensures stays { StaysKept (entries_of entries.old) (entries_of entries.new) }
@@ -76,7 +76,7 @@ fn gather_weight(entries: &mut Entries, base: usize)
 }
 
 // Moves as much as is wanted of one entry's weight to another, or all that it has.
-fn hand_out(entries: &mut Entries, base: usize, index: usize, wanted: i64)
+fn move_wanted_weight(entries: &mut Entries, base: usize, index: usize, wanted: i64)
     requires base { base < length entries.old.items }
     requires index { index < length entries.old.items }
     requires shares { AreShares most_whole (entries_of entries.old) }
@@ -89,7 +89,7 @@ fn hand_out(entries: &mut Entries, base: usize, index: usize, wanted: i64)
 }
 
 // The place of the greatest number, the first of several.
-fn greatest_place(numbers: &Numbers) -> usize
+fn index_of_greatest_number(numbers: &Numbers) -> usize
     requires { 1 ≤ length numbers.now.items }
     ensures { result < length numbers.now.items }
 {
@@ -104,7 +104,7 @@ fn greatest_place(numbers: &Numbers) -> usize
 
 /// Gives each entry the weight that is wanted for it, as far as there is some left. The entry for
 /// which most is wanted takes what the others leave.
-pub fn deal_weights(entries: &mut Entries, wanted: &Numbers)
+pub fn redistribute_entry_weights(entries: &mut Entries, wanted: &Numbers)
     requires some { 1 ≤ length entries.old.items }
     requires wanted { length wanted.now.items ≡ length entries.old.items }
     requires shares { AreShares most_whole (entries_of entries.old) }
@@ -112,11 +112,11 @@ pub fn deal_weights(entries: &mut Entries, wanted: &Numbers)
     ensures shares { AreShares most_whole (entries_of entries.new) }
     ensures count { length entries.new.items ≡ length entries.old.items }
 {
-    let base = greatest_place(wanted);
-    gather_weight(entries, base);
+    let base = index_of_greatest_number(wanted);
+    move_all_weight_to_entry(entries, base);
     for index in 0..wanted.len() {
         if index != base {
-            hand_out(entries, base, index, *wanted.get(index));
+            move_wanted_weight(entries, base, index, *wanted.get(index));
         }
     }
 }

@@ -17,7 +17,11 @@ use std::alloc::{AllocError, Global};
 use uc_model::cases::Case;
 
 // Adds a copy of an entry, where it has some weight.
-fn push_weighed(alloc: Global, entry: &Entry, entries: &mut Entries) -> Result<(), AllocError>
+fn push_entry_if_weighted(
+    alloc: Global,
+    entry: &Entry,
+    entries: &mut Entries,
+) -> Result<(), AllocError>
     requires periods { length (schedule_of entry.now.response).on ≤ MOST_PERIODS }
     requires room { 1 ≤ entries.old.spare }
     ensures entries { IfOk result (λ _. entries_of entries.new
@@ -36,7 +40,7 @@ fn push_weighed(alloc: Global, entry: &Entry, entries: &mut Entries) -> Result<(
 }
 
 // The entries with some weight.
-fn weighed_entries(alloc: Global, from: &Entries) -> Result<Entries, AllocError>
+fn entries_with_weight(alloc: Global, from: &Entries) -> Result<Entries, AllocError>
     requires count { length from.now.items ≤ 1000 }
     requires periods { All (λ (e : WeighedSchedule). length e.schedule.on ≤ MOST_PERIODS)
         (entries_of from.now) }
@@ -44,13 +48,13 @@ fn weighed_entries(alloc: Global, from: &Entries) -> Result<Entries, AllocError>
 {
     let mut entries = Entries::make(alloc, from.len() as u32)?;
     for index in 0..from.len() {
-        push_weighed(alloc, from.get(index), &mut entries)?;
+        push_entry_if_weighted(alloc, from.get(index), &mut entries)?;
     }
     Ok(entries)
 }
 
 /// The mixture without entries of no weight, in memory of its own.
-pub fn weighed_mixture(
+pub fn mixture_without_zero_weights(
     alloc: Global,
     case: &Case,
     places: usize,
@@ -66,7 +70,7 @@ pub fn weighed_mixture(
 {
     let mut thermal = EntryLists::make(alloc, case.thermal.len() as u32)?;
     for number in 0..case.thermal.len() {
-        thermal.push(weighed_entries(alloc, from.thermal.get(number))?);
+        thermal.push(entries_with_weight(alloc, from.thermal.get(number))?);
     }
     Ok(Mixture {
         weight: from.weight,

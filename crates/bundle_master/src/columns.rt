@@ -109,7 +109,7 @@ fn level_of_shares(columns: &[Column], product: f64) -> f64 {
 }
 
 /// Shares at which all products with the reduced costs are the same. The reduced costs may be off by one number.
-pub fn centre_columns(columns: &mut [Column], product: f64) {
+pub fn start_columns_on_central_path(columns: &mut [Column], product: f64) {
     let level = level_of_shares(columns, product);
     let mut sum = 0.0;
     for column in columns.iter_mut() {
@@ -123,7 +123,7 @@ pub fn centre_columns(columns: &mut [Column], product: f64) {
 }
 
 /// The sums with those of a group.
-pub fn add_column_sums(sums: Sums, columns: &[Column]) -> Sums {
+pub fn add_complementarity_of_columns(sums: Sums, columns: &[Column]) -> Sums {
     let mut sums = sums;
     for column in columns {
         sums.cost += column.share * column.cost;
@@ -144,15 +144,15 @@ pub fn set_column_weights(columns: &mut [Column]) -> f64 {
 }
 
 /// A number kept within a distance of 0.
-pub fn clamp_to(x: f64, limit: f64) -> f64 {
+pub fn clamp_magnitude(x: f64, limit: f64) -> f64 {
     x.max(-limit).min(limit)
 }
 
 /// Sets the pushes to a target; their sum.
-pub fn set_column_pushes(columns: &mut [Column], target: Target) -> f64 {
+pub fn set_share_steps_at_fixed_prices(columns: &mut [Column], target: Target) -> f64 {
     let mut sum = 0.0;
     for column in columns {
-        let second = clamp_to(column.share_step * column.reduced_step, target.limit);
+        let second = clamp_magnitude(column.share_step * column.reduced_step, target.limit);
         column.push = (target.product - second) / column.reduced - column.share;
         sum += column.push;
     }
@@ -161,7 +161,7 @@ pub fn set_column_pushes(columns: &mut [Column], target: Target) -> f64 {
 
 /// The steps of a group whose columns earn so much more by the step of the prices as their `reduced_step` says: the
 /// group's level moves so that the shares sum to what they did.
-pub fn step_columns(columns: &mut [Column], weight: f64) {
+pub fn set_newton_steps_of_columns(columns: &mut [Column], weight: f64) {
     let mut sum = 0.0;
     for column in columns.iter() {
         sum += column.push + column.weight * column.reduced_step;
@@ -175,7 +175,7 @@ pub fn step_columns(columns: &mut [Column], weight: f64) {
 }
 
 /// The length of a step, or a lesser one at which a number becomes 0.
-pub fn shortened_length(length: f64, number: f64, step: f64) -> f64 {
+pub fn step_length_until_zero(length: f64, number: f64, step: f64) -> f64 {
     if step < 0.0 && number < -step * length {
         return -number / step;
     }
@@ -186,14 +186,18 @@ pub fn shortened_length(length: f64, number: f64, step: f64) -> f64 {
 pub fn longest_column_steps(columns: &[Column], lengths: Lengths) -> Lengths {
     let mut lengths = lengths;
     for column in columns {
-        lengths.primal = shortened_length(lengths.primal, column.share, column.share_step);
-        lengths.dual = shortened_length(lengths.dual, column.reduced, column.reduced_step);
+        lengths.primal = step_length_until_zero(lengths.primal, column.share, column.share_step);
+        lengths.dual = step_length_until_zero(lengths.dual, column.reduced, column.reduced_step);
     }
     lengths
 }
 
 /// The sum of products with those of the columns after a step of those lengths.
-pub fn add_columns_ahead(sum: f64, columns: &[Column], lengths: Lengths) -> f64 {
+pub fn add_complementarity_of_columns_after_step(
+    sum: f64,
+    columns: &[Column],
+    lengths: Lengths,
+) -> f64 {
     let mut sum = sum;
     for column in columns {
         let share = column.share + lengths.primal * column.share_step;

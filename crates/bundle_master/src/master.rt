@@ -182,7 +182,7 @@ fn make_rows(alloc: Global, periods: usize) -> Result<Vec<Row>, AllocError>
 
 impl Master {
     /// Sets what is due in a row: demand or required reserve, in megawatts.
-    pub fn set_due(&mut self, row: usize, amount: f64)
+    pub fn set_requirement_of_row(&mut self, row: usize, amount: f64)
         requires { row < 2 * self.old.periods }
         ensures { self.new ≡ self.old }
     {
@@ -190,7 +190,7 @@ impl Master {
     }
 
     /// Adds a variable from 0 to an amount in an energy row, which costs so much as a whole.
-    pub fn add_single(&mut self, row: usize, amount: f64, cost: f64)
+    pub fn add_row_variable(&mut self, row: usize, amount: f64, cost: f64)
         requires row { row < self.old.periods }
         requires room { 1 ≤ self.old.room }
         ensures { self.new ≡ with_single self.old }
@@ -199,22 +199,22 @@ impl Master {
     }
 
     /// How many columns a thermal unit has.
-    pub fn count(&self, unit: usize) -> usize
+    pub fn column_count(&self, unit: usize) -> usize
         requires { unit < self.now.thermal }
         ensures value { result ≡ count_of self.now unit }
         ensures limit { result ≤ self.now.places }
     {
-        self.units[unit].count()
+        self.units[unit].column_count()
     }
 
     /// The first free place of a thermal unit, else that of the column with the greatest reduced cost.
-    pub fn next_place(&self, unit: usize) -> usize
+    pub fn next_column_index(&self, unit: usize) -> usize
         requires { unit < self.now.thermal }
         ensures index { result < self.now.places }
         ensures count { result ≤ count_of self.now unit }
         ensures free { count_of self.now unit < self.now.places → result ≡ count_of self.now unit }
     {
-        self.units[unit].next_place()
+        self.units[unit].next_column_index()
     }
 
     /// Adds or replaces a column: what a schedule costs, and its power and reserve in each period, in kilowatts.
@@ -256,24 +256,24 @@ impl Master {
     /// the many solutions that
     /// a master problem mostly has one is then the best, and it has few columns (Charnes, 'Optimality and Degeneracy in
     /// Linear Programming', Econometrica 1952, perturbs so).
-    pub fn perturb(&mut self, amount: f64)
+    pub fn perturb_column_costs(&mut self, amount: f64)
         ensures { self.new ≡ self.old }
     {
         units::perturb_units(self.units.as_mut_slice(), amount);
     }
 
     /// The price of a row.
-    pub fn price(&self, row: usize) -> f64
+    pub fn row_price(&self, row: usize) -> f64
         requires { row < 2 * self.now.periods }
     {
         self.prices[row]
     }
 
     /// The share of the column at an index of a thermal unit, and 0 where there is none.
-    pub fn share(&self, unit: usize, index: usize) -> f64
+    pub fn column_share(&self, unit: usize, index: usize) -> f64
         requires { unit < self.now.thermal }
     {
-        self.units[unit].share(index)
+        self.units[unit].column_share(index)
     }
 
     /// Changes prices and shares until the products sum to at most what the aim says, in at most so many Newton steps.
@@ -282,25 +282,25 @@ impl Master {
         ensures { self.new ≡ self.old }
     {
         self.ridge = aim.ridge;
-        self.start(aim);
+        self.set_starting_point(aim);
         let mut pace = Pace::new();
         for _ in 0..aim.steps {
-            let off = self.balance();
-            let sums = self.sums();
+            let off = self.set_row_residuals();
+            let sums = self.cost_and_complementarity();
             if sums.products <= aim.accuracy && (!aim.strict || off * HIGHEST < aim.balance) {
                 return true;
             }
             let held = aim.strict && off > sums.products;
-            self.step(sums, pace.share(), held);
-            pace.set(self.advance());
+            self.set_predictor_corrector_step(sums, pace.centring_parameter(), held);
+            pace.follow_step_length(self.take_newton_step());
         }
         false
     }
 
     /// Where the last solution ended.
-    pub fn standing(&self) -> Standing {
-        let sums = self.sums();
-        let (cost, off) = rows::ridge_sums(
+    pub fn summary_of_last_solution(&self) -> Standing {
+        let sums = self.cost_and_complementarity();
+        let (cost, off) = rows::ridge_penalty_cost_and_magnitude(
             self.rows.as_slice(),
             self.prices.as_slice(),
             self.ridge,
@@ -313,47 +313,61 @@ impl Master {
     }
 
     // Centres all groups, and where a solution is strict so wide that what is off is little beside the products.
-    fn start(&mut self, aim: Aim)
+    fn set_starting_point(&mut self, aim: Aim)
         ensures { self.new ≡ self.old }
     {
-        let pairs = self.sums().pairs;
+        let pairs = self.cost_and_complementarity().pairs;
         let mut product = aim.wide / pairs;
         for _ in 0..GROWTHS {
-            self.centre(product);
-            if !aim.strict || self.balance() * START <= product * pairs {
+            self.start_on_central_path(product);
+            if !aim.strict || self.set_row_residuals() * START <= product * pairs {
                 break;
             }
             product *= GROWTH;
         }
     }
 
-    fn centre(&mut self, product: f64)
+    fn start_on_central_path(&mut self, product: f64)
         ensures { self.new ≡ self.old }
     {
-        units::centre_units(self.units.as_mut_slice(), self.prices.as_slice(), product);
-        singles::centre_singles(self.singles.as_mut_slice(), self.prices.as_slice(), product);
-        rows::centre_rows(self.rows.as_mut_slice(), self.prices.as_slice(), product);
+        units::start_units_on_central_path(
+            self.units.as_mut_slice(),
+            self.prices.as_slice(),
+            product,
+        );
+        singles::start_row_variables_on_central_path(
+            self.singles.as_mut_slice(),
+            self.prices.as_slice(),
+            product,
+        );
+        rows::start_rows_on_central_path(self.rows.as_mut_slice(), self.prices.as_slice(), product);
     }
 
     // Sets what is off in each row; the sum of the magnitudes.
-    fn balance(&mut self) -> f64
+    fn set_row_residuals(&mut self) -> f64
         ensures { self.new ≡ self.old }
     {
-        rows::begin_due(
+        rows::write_amounts_wanted_from_columns(
             self.rows.as_slice(),
             self.prices.as_slice(),
             self.ridge,
             self.left.as_mut_slice(),
         );
-        units::take_off_units(self.units.as_slice(), self.left.as_mut_slice());
-        singles::take_off_singles(self.singles.as_slice(), self.left.as_mut_slice());
+        units::subtract_all_units_from_row_residuals(
+            self.units.as_slice(),
+            self.left.as_mut_slice(),
+        );
+        singles::subtract_row_variables_from_row_residuals(
+            self.singles.as_slice(),
+            self.left.as_mut_slice(),
+        );
         sum_of_magnitudes(self.left.as_slice())
     }
 
-    fn sums(&self) -> Sums {
-        let sums = units::add_unit_sums(self.units.as_slice(), Sums::NONE);
-        let sums = singles::add_single_sums(self.singles.as_slice(), sums);
-        rows::add_row_sums(
+    fn cost_and_complementarity(&self) -> Sums {
+        let sums = units::add_complementarity_of_units(self.units.as_slice(), Sums::NONE);
+        let sums = singles::add_complementarity_of_row_variables(self.singles.as_slice(), sums);
+        rows::add_complementarity_of_rows(
             self.rows.as_slice(),
             self.prices.as_slice(),
             self.left.as_slice(),
@@ -363,29 +377,29 @@ impl Master {
 
     // A step that brings what is off to 0. The products are held at their mean, or brought to that share of it or more:
     // the less a step to 0 would leave of them, the lower (a predictor and a corrector, Mehrotra 1992).
-    fn step(&mut self, sums: Sums, share: f64, held: bool)
+    fn set_predictor_corrector_step(&mut self, sums: Sums, share: f64, held: bool)
         ensures { self.new ≡ self.old }
     {
         let mean = sums.products / sums.pairs;
         self.factor();
         if held {
-            self.head_for(mean, 0.0);
+            self.set_newton_step_to_target(mean, 0.0);
         } else {
-            self.head_for(0.0, 0.0);
-            let left = self.ahead() / sums.products;
+            self.set_newton_step_to_target(0.0, 0.0);
+            let left = self.complementarity_after_longest_step() / sums.products;
             let product = mean * (left * left * left).max(share).min(1.0);
-            self.head_for(product, SECOND_ORDER * product);
+            self.set_newton_step_to_target(product, SECOND_ORDER * product);
         }
     }
 
     // The step that brings what is off to 0, and each product to the same, by the root of the matrix.
-    fn head_for(&mut self, product: f64, limit: f64)
+    fn set_newton_step_to_target(&mut self, product: f64, limit: f64)
         ensures { self.new ≡ self.old }
     {
-        self.push(Target { product, limit });
+        self.set_steps_at_fixed_price(Target { product, limit });
         self.matrix.solve(self.right.as_mut_slice());
         self.price_steps.copy_from_slice(self.right.as_slice());
-        self.follow();
+        self.set_newton_steps();
     }
 
     fn factor(&mut self)
@@ -393,7 +407,7 @@ impl Master {
     {
         self.matrix.clear();
         units::add_units_to_matrix(self.units.as_mut_slice(), &mut self.matrix);
-        singles::add_singles_to_matrix(self.singles.as_mut_slice(), &mut self.matrix);
+        singles::add_row_variables_to_matrix(self.singles.as_mut_slice(), &mut self.matrix);
         rows::add_rows_to_matrix(
             self.rows.as_slice(),
             self.prices.as_slice(),
@@ -404,14 +418,14 @@ impl Master {
     }
 
     // Sets the pushes and the right-hand side.
-    fn push(&mut self, target: Target)
+    fn set_steps_at_fixed_price(&mut self, target: Target)
         ensures { self.new ≡ self.old }
     {
         self.right.copy_from_slice(self.left.as_slice());
         let right = self.right.as_mut_slice();
-        units::set_unit_pushes(self.units.as_mut_slice(), target, right);
-        singles::set_single_pushes(self.singles.as_mut_slice(), target, right);
-        rows::set_row_pushes(
+        units::add_units_to_newton_right_side(self.units.as_mut_slice(), target, right);
+        singles::add_row_variables_to_newton_right_side(self.singles.as_mut_slice(), target, right);
+        rows::add_rows_to_newton_right_side(
             self.rows.as_mut_slice(),
             self.prices.as_slice(),
             self.price_steps.as_slice(),
@@ -420,25 +434,28 @@ impl Master {
         );
     }
 
-    fn follow(&mut self)
+    fn set_newton_steps(&mut self)
         ensures { self.new ≡ self.old }
     {
-        units::step_units(self.units.as_mut_slice(), self.price_steps.as_slice());
-        singles::step_singles(self.singles.as_mut_slice(), self.price_steps.as_slice());
-        rows::step_rows(
+        units::set_newton_steps_of_units(self.units.as_mut_slice(), self.price_steps.as_slice());
+        singles::set_newton_steps_of_row_variables(
+            self.singles.as_mut_slice(),
+            self.price_steps.as_slice(),
+        );
+        rows::set_newton_steps_of_rows(
             self.rows.as_mut_slice(),
             self.prices.as_slice(),
             self.price_steps.as_slice(),
         );
     }
 
-    fn longest(&self) -> Lengths {
+    fn longest_step(&self) -> Lengths {
         let whole = Lengths {
             primal: 1.0 / WAY,
             dual: 1.0 / WAY,
         };
         let lengths = units::longest_unit_steps(self.units.as_slice(), whole);
-        let lengths = singles::longest_single_steps(self.singles.as_slice(), lengths);
+        let lengths = singles::longest_row_variable_steps(self.singles.as_slice(), lengths);
         let prices = self.prices.as_slice();
         let lengths = rows::longest_row_steps(
             self.rows.as_slice(),
@@ -453,12 +470,20 @@ impl Master {
     }
 
     // The sum of the products after the longest step.
-    fn ahead(&self) -> f64 {
-        let lengths = self.longest();
-        let sum = units::add_units_ahead(0.0, self.units.as_slice(), lengths);
-        let sum = singles::add_singles_ahead(sum, self.singles.as_slice(), lengths);
+    fn complementarity_after_longest_step(&self) -> f64 {
+        let lengths = self.longest_step();
+        let sum = units::add_complementarity_of_units_after_step(
+            0.0,
+            self.units.as_slice(),
+            lengths,
+        );
+        let sum = singles::add_complementarity_of_row_variables_after_step(
+            sum,
+            self.singles.as_slice(),
+            lengths,
+        );
         let prices = self.prices.as_slice();
-        rows::add_rows_ahead(
+        rows::add_complementarity_of_rows_after_step(
             sum,
             self.rows.as_slice(),
             prices,
@@ -468,13 +493,13 @@ impl Master {
     }
 
     // Takes the step as far as all numbers stay above 0, and the whole of it at most; how far.
-    fn advance(&mut self) -> f64
+    fn take_newton_step(&mut self) -> f64
         ensures { self.new ≡ self.old }
     {
-        let lengths = self.longest();
+        let lengths = self.longest_step();
         let length = lengths.primal.min(lengths.dual);
         units::advance_units(self.units.as_mut_slice(), length);
-        singles::advance_singles(self.singles.as_mut_slice(), length);
+        singles::advance_row_variables(self.singles.as_mut_slice(), length);
         rows::advance_rows(self.rows.as_mut_slice(), length);
         add_multiple(
             self.prices.as_mut_slice(),

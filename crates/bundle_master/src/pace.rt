@@ -24,12 +24,12 @@ impl Pace {
     }
 
     /// The share of the next step.
-    pub fn share(&self) -> f64 {
+    pub fn centring_parameter(&self) -> f64 {
         self.share
     }
 
     /// Follows a step of that length.
-    pub fn set(&mut self, length: f64) {
+    pub fn follow_step_length(&mut self, length: f64) {
         if length < SHORT {
             self.share = (self.share * 4.0).min(1.0);
         } else if length > LONG {

@@ -1,7 +1,7 @@
 //! The rows of a master problem: what is due, and the limits of the price.
 ghost use Rattle.std.specs.Prelude.{◌≡◌, length};
 
-use crate::columns::{Lengths, Sums, Target, clamp_to, shortened_length};
+use crate::columns::{Lengths, Sums, Target, clamp_magnitude, step_length_until_zero};
 use dense_matrix::matrix::Matrix;
 
 /// The greatest price, and the least energy price.
@@ -45,28 +45,28 @@ impl Row {
     }
 
     /// Makes the two products the same.
-    pub fn centre(&mut self, price: f64, product: f64) {
+    pub fn start_on_central_path(&mut self, price: f64, product: f64) {
         self.lack = product / (HIGHEST - price);
         self.more = product / (price - self.lowest);
     }
 
     /// What the ridge takes.
-    pub fn held(&self, price: f64, ridge: f64) -> f64 {
+    pub fn amount_held_by_ridge(&self, price: f64, ridge: f64) -> f64 {
         ridge * (price - self.centre)
     }
 
     /// What the columns have to give.
-    pub fn wanted(&self, price: f64, ridge: f64) -> f64 {
-        self.due - self.lack + self.more - self.held(price, ridge)
+    pub fn amount_wanted_from_columns(&self, price: f64, ridge: f64) -> f64 {
+        self.due - self.lack + self.more - self.amount_held_by_ridge(price, ridge)
     }
 
     /// How fast what is lacking, too much and held follows the price.
-    pub fn curvature(&self, price: f64, ridge: f64) -> f64 {
+    pub fn newton_diagonal(&self, price: f64, ridge: f64) -> f64 {
         self.lack / (HIGHEST - price) + self.more / (price - self.lowest) + ridge + LEAST_CURVATURE
     }
 
     /// The sums with those of the row, of which so much is left.
-    pub fn add_to(&self, sums: Sums, price: f64, left: f64) -> Sums {
+    pub fn add_cost_and_complementarity(&self, sums: Sums, price: f64, left: f64) -> Sums {
         Sums {
             cost: sums.cost + left * price + self.lack * HIGHEST - self.more * self.lowest,
             products: sums.products
@@ -78,32 +78,38 @@ impl Row {
 
     /// Sets the steps to a target at an unchanged price; what they take off what is left. The last step's second order
     /// is that of the price's step too.
-    pub fn push(&mut self, price: f64, last_step: f64, target: Target) -> f64 {
-        let second_lack = clamp_to(last_step * self.lack_step, target.limit);
-        let second_more = clamp_to(last_step * self.more_step, target.limit);
+    pub fn set_steps_at_fixed_price(&mut self, price: f64, last_step: f64, target: Target) -> f64 {
+        let second_lack = clamp_magnitude(last_step * self.lack_step, target.limit);
+        let second_more = clamp_magnitude(last_step * self.more_step, target.limit);
         self.lack_step = (target.product + second_lack) / (HIGHEST - price) - self.lack;
         self.more_step = (target.product - second_more) / (price - self.lowest) - self.more;
         self.lack_step - self.more_step
     }
 
     /// The steps at that step of the price.
-    pub fn follow(&mut self, price: f64, price_step: f64) {
+    pub fn set_newton_steps(&mut self, price: f64, price_step: f64) {
         self.lack_step += self.lack / (HIGHEST - price) * price_step;
         self.more_step -= self.more / (price - self.lowest) * price_step;
     }
 
     /// The lengths of a step, or lesser ones at which a number becomes 0.
-    pub fn longest(&self, lengths: Lengths, price: f64, price_step: f64) -> Lengths {
-        let primal = shortened_length(lengths.primal, self.lack, self.lack_step);
-        let dual = shortened_length(lengths.dual, HIGHEST - price, -price_step);
+    pub fn longest_step(&self, lengths: Lengths, price: f64, price_step: f64) -> Lengths {
+        let primal = step_length_until_zero(lengths.primal, self.lack, self.lack_step);
+        let dual = step_length_until_zero(lengths.dual, HIGHEST - price, -price_step);
         Lengths {
-            primal: shortened_length(primal, self.more, self.more_step),
-            dual: shortened_length(dual, price - self.lowest, price_step),
+            primal: step_length_until_zero(primal, self.more, self.more_step),
+            dual: step_length_until_zero(dual, price - self.lowest, price_step),
         }
     }
 
     /// The sum of products with the row's two after a step of those lengths.
-    pub fn add_ahead(&self, sum: f64, lengths: Lengths, price: f64, price_step: f64) -> f64 {
+    pub fn add_complementarity_after_step(
+        &self,
+        sum: f64,
+        lengths: Lengths,
+        price: f64,
+        price_step: f64,
+    ) -> f64 {
         let step = lengths.dual * price_step;
         let lack = self.lack + lengths.primal * self.lack_step;
         let more = self.more + lengths.primal * self.more_step;
@@ -111,51 +117,51 @@ impl Row {
     }
 
     /// Takes a step of that length.
-    pub fn advance(&mut self, length: f64) {
+    pub fn take_newton_step(&mut self, length: f64) {
         self.lack += length * self.lack_step;
         self.more += length * self.more_step;
     }
 }
 
 /// Makes the products of all rows the same at those prices.
-pub fn centre_rows(rows: &mut [Row], prices: &[f64], product: f64)
+pub fn start_rows_on_central_path(rows: &mut [Row], prices: &[f64], product: f64)
     requires { length prices.now ≡ length rows.old }
 {
     for row in 0..rows.len() {
-        rows[row].centre(prices[row], product);
+        rows[row].start_on_central_path(prices[row], product);
     }
 }
 
 /// Sets what the columns have to give.
-pub fn begin_due(rows: &[Row], prices: &[f64], ridge: f64, due: &mut [f64])
+pub fn write_amounts_wanted_from_columns(rows: &[Row], prices: &[f64], ridge: f64, due: &mut [f64])
     requires prices { length prices.now ≡ length rows.now }
     requires due { length due.old ≡ length rows.now }
 {
     for row in 0..rows.len() {
-        due[row] = rows[row].wanted(prices[row], ridge);
+        due[row] = rows[row].amount_wanted_from_columns(prices[row], ridge);
     }
 }
 
 /// The sums with those of all rows, of which so much is left.
-pub fn add_row_sums(rows: &[Row], prices: &[f64], left: &[f64], sums: Sums) -> Sums
+pub fn add_complementarity_of_rows(rows: &[Row], prices: &[f64], left: &[f64], sums: Sums) -> Sums
     requires prices { length prices.now ≡ length rows.now }
     requires left { length left.now ≡ length rows.now }
 {
     let mut sums = sums;
     for row in 0..rows.len() {
-        sums = rows[row].add_to(sums, prices[row], left[row]);
+        sums = rows[row].add_cost_and_complementarity(sums, prices[row], left[row]);
     }
     sums
 }
 
 /// What the ridge holds, priced; and the sum of the magnitudes.
-pub fn ridge_sums(rows: &[Row], prices: &[f64], ridge: f64) -> (f64, f64)
+pub fn ridge_penalty_cost_and_magnitude(rows: &[Row], prices: &[f64], ridge: f64) -> (f64, f64)
     requires { length prices.now ≡ length rows.now }
 {
     let mut cost = 0.0;
     let mut sum = 0.0;
     for row in 0..rows.len() {
-        let held = rows[row].held(prices[row], ridge);
+        let held = rows[row].amount_held_by_ridge(prices[row], ridge);
         cost += held * prices[row];
         sum += held.abs();
     }
@@ -169,12 +175,12 @@ pub fn add_rows_to_matrix(rows: &[Row], prices: &[f64], ridge: f64, matrix: &mut
     ensures { matrix.new ≡ matrix.old }
 {
     for row in 0..rows.len() {
-        matrix.add_to_diagonal(row, rows[row].curvature(prices[row], ridge));
+        matrix.add_to_diagonal(row, rows[row].newton_diagonal(prices[row], ridge));
     }
 }
 
 /// Sets the steps of all rows to a target at unchanged prices, and takes them off a right-hand side.
-pub fn set_row_pushes(
+pub fn add_rows_to_newton_right_side(
     rows: &mut [Row],
     prices: &[f64],
     last_steps: &[f64],
@@ -186,17 +192,17 @@ pub fn set_row_pushes(
     requires right { length right.old ≡ length rows.old }
 {
     for row in 0..rows.len() {
-        right[row] -= rows[row].push(prices[row], last_steps[row], target);
+        right[row] -= rows[row].set_steps_at_fixed_price(prices[row], last_steps[row], target);
     }
 }
 
 /// The steps of all rows at that step of the prices.
-pub fn step_rows(rows: &mut [Row], prices: &[f64], price_steps: &[f64])
+pub fn set_newton_steps_of_rows(rows: &mut [Row], prices: &[f64], price_steps: &[f64])
     requires prices { length prices.now ≡ length rows.old }
     requires steps { length price_steps.now ≡ length rows.old }
 {
     for row in 0..rows.len() {
-        rows[row].follow(prices[row], price_steps[row]);
+        rows[row].set_newton_steps(prices[row], price_steps[row]);
     }
 }
 
@@ -212,13 +218,13 @@ pub fn longest_row_steps(
 {
     let mut lengths = lengths;
     for row in 0..rows.len() {
-        lengths = rows[row].longest(lengths, prices[row], price_steps[row]);
+        lengths = rows[row].longest_step(lengths, prices[row], price_steps[row]);
     }
     lengths
 }
 
 /// The sum of products with those of all rows after a step of those lengths.
-pub fn add_rows_ahead(
+pub fn add_complementarity_of_rows_after_step(
     sum: f64,
     rows: &[Row],
     prices: &[f64],
@@ -230,7 +236,7 @@ pub fn add_rows_ahead(
 {
     let mut sum = sum;
     for row in 0..rows.len() {
-        sum = rows[row].add_ahead(sum, lengths, prices[row], price_steps[row]);
+        sum = rows[row].add_complementarity_after_step(sum, lengths, prices[row], price_steps[row]);
     }
     sum
 }
@@ -238,6 +244,6 @@ pub fn add_rows_ahead(
 /// Takes a step of that length with all rows.
 pub fn advance_rows(rows: &mut [Row], length: f64) {
     for row in rows {
-        row.advance(length);
+        row.take_newton_step(length);
     }
 }

@@ -50,7 +50,7 @@ impl Model for Unit {
 }
 
 // The place of the column with the greatest reduced cost.
-fn greatest_reduced_cost(columns: &[Column]) -> usize
+fn index_of_greatest_reduced_cost(columns: &[Column]) -> usize
     requires { 1 ≤ length columns.now }
     ensures { result < length columns.now }
 {
@@ -86,7 +86,7 @@ fn set_reduced_costs(columns: &mut [Column], amounts: &Table, prices: &[f64])
 }
 
 // Takes what the shares give off what is due.
-fn take_off_shares(columns: &[Column], amounts: &Table, due: &mut [f64])
+fn subtract_shares_from_row_residuals(columns: &[Column], amounts: &Table, due: &mut [f64])
     requires columns { length columns.now ≤ amounts.now.height }
     requires due { length due.old ≡ amounts.now.width }
 {
@@ -120,13 +120,13 @@ fn add_columns(columns: &[Column], amounts: &Table, mean: &[f64], matrix: &mut M
 {
     for index in 0..columns.len() {
         let factor = columns[index].weight.sqrt();
-        matrix.add_column(factor, amounts.row(index), mean);
+        matrix.add_outer_product_of_column(factor, amounts.row(index), mean);
     }
-    matrix.end_columns();
+    matrix.add_remaining_outer_products();
 }
 
 // Takes what the pushes give off a right-hand side.
-fn take_off_pushes(columns: &[Column], amounts: &Table, right: &mut [f64])
+fn subtract_steps_at_fixed_prices(columns: &[Column], amounts: &Table, right: &mut [f64])
     requires columns { length columns.now ≤ amounts.now.height }
     requires right { length right.old ≡ amounts.now.width }
 {
@@ -136,7 +136,7 @@ fn take_off_pushes(columns: &[Column], amounts: &Table, right: &mut [f64])
 }
 
 // What each column earns by that step of the prices.
-fn set_reduced_steps(columns: &mut [Column], amounts: &Table, price_steps: &[f64])
+fn set_reduced_cost_steps(columns: &mut [Column], amounts: &Table, price_steps: &[f64])
     requires columns { length columns.old ≤ amounts.now.height }
     requires steps { length price_steps.now ≡ amounts.now.width }
 {
@@ -147,7 +147,7 @@ fn set_reduced_steps(columns: &mut [Column], amounts: &Table, price_steps: &[f64
 
 impl Unit {
     /// Adds a part of an amount to the cost of each column, each another part; tells where the parts have come to.
-    pub fn perturb(&mut self, amount: f64, start: f64) -> f64
+    pub fn perturb_column_costs(&mut self, amount: f64, start: f64) -> f64
         ensures { self.new ≡ self.old }
     {
         columns::perturb_columns(self.columns.as_mut_slice(), amount, start)
@@ -171,7 +171,7 @@ impl Unit {
     }
 
     /// How many columns there are.
-    pub fn count(&self) -> usize
+    pub fn column_count(&self) -> usize
         ensures value { result ≡ self.now.count }
         ensures limit { result ≤ self.now.places }
     {
@@ -179,7 +179,7 @@ impl Unit {
     }
 
     /// The first free place, else that of the column with the greatest reduced cost.
-    pub fn next_place(&self) -> usize
+    pub fn next_column_index(&self) -> usize
         requires { 1 ≤ self.now.places }
         ensures index { result < self.now.places }
         ensures count { result ≤ self.now.count }
@@ -189,7 +189,7 @@ impl Unit {
         if count < self.amounts.height() {
             return count;
         }
-        greatest_reduced_cost(self.columns.as_slice())
+        index_of_greatest_reduced_cost(self.columns.as_slice())
     }
 
     /// Adds or replaces a column: what a schedule costs, and its power and reserve in each period, in kilowatts.
@@ -211,7 +211,7 @@ impl Unit {
     }
 
     /// The share of the column at an index, and 0 where there is none.
-    pub fn share(&self, index: usize) -> f64 {
+    pub fn column_share(&self, index: usize) -> f64 {
         if index < self.columns.len() {
             self.columns[index].share
         } else {
@@ -220,28 +220,28 @@ impl Unit {
     }
 
     /// The sums with those of the columns.
-    pub fn add_to(&self, sums: Sums) -> Sums {
-        columns::add_column_sums(sums, self.columns.as_slice())
+    pub fn add_cost_and_complementarity(&self, sums: Sums) -> Sums {
+        columns::add_complementarity_of_columns(sums, self.columns.as_slice())
     }
 
     /// Shares at which each product with the reduced cost at those prices is the same.
-    pub fn centre(&mut self, prices: &[f64], product: f64)
+    pub fn start_on_central_path(&mut self, prices: &[f64], product: f64)
         requires { length prices.now ≡ self.old.rows }
         ensures { self.new ≡ self.old }
     {
         set_reduced_costs(self.columns.as_mut_slice(), &self.amounts, prices);
-        columns::centre_columns(self.columns.as_mut_slice(), product);
+        columns::start_columns_on_central_path(self.columns.as_mut_slice(), product);
     }
 
     /// Takes what the shares give off what is due.
-    pub fn take_off(&self, due: &mut [f64])
+    pub fn subtract_unit_from_row_residuals(&self, due: &mut [f64])
         requires { length due.old ≡ self.now.rows }
     {
-        take_off_shares(self.columns.as_slice(), &self.amounts, due);
+        subtract_shares_from_row_residuals(self.columns.as_slice(), &self.amounts, due);
     }
 
     /// Sets weights and mean, and adds to the matrix how fast what the columns give follows the prices.
-    pub fn add_to_matrix(&mut self, matrix: &mut Matrix)
+    pub fn add_one_unit_to_matrix(&mut self, matrix: &mut Matrix)
         requires { matrix.old ≡ self.old.rows }
         ensures unit { self.new ≡ self.old }
         ensures matrix { matrix.new ≡ matrix.old }
@@ -249,12 +249,12 @@ impl Unit {
         if self.columns.is_empty() {
             return;
         }
-        self.weigh();
+        self.set_weights_and_mean();
         add_columns(self.columns.as_slice(), &self.amounts, &self.mean, matrix);
     }
 
     // Sets the weights and the mean of the columns by them.
-    fn weigh(&mut self)
+    fn set_weights_and_mean(&mut self)
         requires { 1 ≤ self.old.count }
         ensures { self.new ≡ self.old }
     {
@@ -268,39 +268,39 @@ impl Unit {
     }
 
     /// Sets the pushes to a target, and takes what they give off a right-hand side.
-    pub fn push(&mut self, target: Target, right: &mut [f64])
+    pub fn set_steps_at_fixed_price(&mut self, target: Target, right: &mut [f64])
         requires { length right.old ≡ self.old.rows }
         ensures { self.new ≡ self.old }
     {
         if self.columns.is_empty() {
             return;
         }
-        let sum = columns::set_column_pushes(self.columns.as_mut_slice(), target);
-        take_off_pushes(self.columns.as_slice(), &self.amounts, right);
+        let sum = columns::set_share_steps_at_fixed_prices(self.columns.as_mut_slice(), target);
+        subtract_steps_at_fixed_prices(self.columns.as_slice(), &self.amounts, right);
         add_multiple(right, sum, &self.mean);
     }
 
     /// The steps of shares and reduced costs at that step of the prices.
-    pub fn follow(&mut self, price_steps: &[f64])
+    pub fn set_newton_steps(&mut self, price_steps: &[f64])
         requires { length price_steps.now ≡ self.old.rows }
         ensures { self.new ≡ self.old }
     {
-        set_reduced_steps(self.columns.as_mut_slice(), &self.amounts, price_steps);
-        columns::step_columns(self.columns.as_mut_slice(), self.weight);
+        set_reduced_cost_steps(self.columns.as_mut_slice(), &self.amounts, price_steps);
+        columns::set_newton_steps_of_columns(self.columns.as_mut_slice(), self.weight);
     }
 
     /// The lengths of a step, or lesser ones at which a share or a reduced cost becomes 0.
-    pub fn longest(&self, lengths: Lengths) -> Lengths {
+    pub fn longest_step(&self, lengths: Lengths) -> Lengths {
         columns::longest_column_steps(self.columns.as_slice(), lengths)
     }
 
     /// The sum of products with those of the columns after a step of those lengths.
-    pub fn add_ahead(&self, sum: f64, lengths: Lengths) -> f64 {
-        columns::add_columns_ahead(sum, self.columns.as_slice(), lengths)
+    pub fn add_complementarity_after_step(&self, sum: f64, lengths: Lengths) -> f64 {
+        columns::add_complementarity_of_columns_after_step(sum, self.columns.as_slice(), lengths)
     }
 
     /// Takes a step of that length.
-    pub fn advance(&mut self, length: f64)
+    pub fn take_newton_step(&mut self, length: f64)
         ensures { self.new ≡ self.old }
     {
         columns::advance_columns(self.columns.as_mut_slice(), length);
@@ -308,10 +308,10 @@ impl Unit {
 }
 
 /// The sums with those of all units.
-pub fn add_unit_sums(units: &[Unit], sums: Sums) -> Sums {
+pub fn add_complementarity_of_units(units: &[Unit], sums: Sums) -> Sums {
     let mut sums = sums;
     for unit in units {
-        sums = unit.add_to(sums);
+        sums = unit.add_cost_and_complementarity(sums);
     }
     sums
 }
@@ -322,26 +322,26 @@ pub fn perturb_units(units: &mut [Unit], amount: f64)
 {
     let mut part = 0.0;
     for unit in 0..units.len() {
-        part = units[unit].perturb(amount, part);
+        part = units[unit].perturb_column_costs(amount, part);
     }
 }
 
 /// Centres all units at those prices.
-pub fn centre_units(units: &mut [Unit], prices: &[f64], product: f64)
+pub fn start_units_on_central_path(units: &mut [Unit], prices: &[f64], product: f64)
     requires { AreOver (length prices.now) units.old }
     ensures { units.new ≡ units.old }
 {
     for unit in 0..units.len() {
-        units[unit].centre(prices, product);
+        units[unit].start_on_central_path(prices, product);
     }
 }
 
 /// Takes what the shares of all units give off what is due.
-pub fn take_off_units(units: &[Unit], due: &mut [f64])
+pub fn subtract_all_units_from_row_residuals(units: &[Unit], due: &mut [f64])
     requires { AreOver (length due.old) units.now }
 {
     for unit in 0..units.len() {
-        units[unit].take_off(due);
+        units[unit].subtract_unit_from_row_residuals(due);
     }
 }
 
@@ -352,27 +352,27 @@ pub fn add_units_to_matrix(units: &mut [Unit], matrix: &mut Matrix)
     ensures matrix { matrix.new ≡ matrix.old }
 {
     for unit in 0..units.len() {
-        units[unit].add_to_matrix(matrix);
+        units[unit].add_one_unit_to_matrix(matrix);
     }
 }
 
 /// Sets the pushes of all units to a target, and takes what they give off a right-hand side.
-pub fn set_unit_pushes(units: &mut [Unit], target: Target, right: &mut [f64])
+pub fn add_units_to_newton_right_side(units: &mut [Unit], target: Target, right: &mut [f64])
     requires { AreOver (length right.old) units.old }
     ensures { units.new ≡ units.old }
 {
     for unit in 0..units.len() {
-        units[unit].push(target, right);
+        units[unit].set_steps_at_fixed_price(target, right);
     }
 }
 
 /// The steps of all units at that step of the prices.
-pub fn step_units(units: &mut [Unit], price_steps: &[f64])
+pub fn set_newton_steps_of_units(units: &mut [Unit], price_steps: &[f64])
     requires { AreOver (length price_steps.now) units.old }
     ensures { units.new ≡ units.old }
 {
     for unit in 0..units.len() {
-        units[unit].follow(price_steps);
+        units[unit].set_newton_steps(price_steps);
     }
 }
 
@@ -380,16 +380,16 @@ pub fn step_units(units: &mut [Unit], price_steps: &[f64])
 pub fn longest_unit_steps(units: &[Unit], lengths: Lengths) -> Lengths {
     let mut lengths = lengths;
     for unit in units {
-        lengths = unit.longest(lengths);
+        lengths = unit.longest_step(lengths);
     }
     lengths
 }
 
 /// The sum of products with those of all units after a step of those lengths.
-pub fn add_units_ahead(sum: f64, units: &[Unit], lengths: Lengths) -> f64 {
+pub fn add_complementarity_of_units_after_step(sum: f64, units: &[Unit], lengths: Lengths) -> f64 {
     let mut sum = sum;
     for unit in units {
-        sum = unit.add_ahead(sum, lengths);
+        sum = unit.add_complementarity_after_step(sum, lengths);
     }
     sum
 }
@@ -399,6 +399,6 @@ pub fn advance_units(units: &mut [Unit], length: f64)
     ensures { units.new ≡ units.old }
 {
     for unit in 0..units.len() {
-        units[unit].advance(length);
+        units[unit].take_newton_step(length);
     }
 }

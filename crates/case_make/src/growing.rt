@@ -25,7 +25,7 @@ pub struct Growing {
 }
 
 // Adds one unit's powers to the sums.
-fn add_powers(sums: &mut Numbers, powers: &Powers)
+fn add_unit_powers_to_sums(sums: &mut Numbers, powers: &Powers)
     requires lengths { length sums.old.items ≡ length powers.now.items }
     requires sums { All IsPower sums.old.items }
     ensures length { length sums.new.items ≡ length sums.old.items }
@@ -65,7 +65,7 @@ impl Growing {
         ensures summed { IsSummed self.new }
         ensures room { self.new.responses.spare + 1 ≡ self.old.responses.spare }
     {
-        add_powers(&mut self.power, &response.power);
+        add_unit_powers_to_sums(&mut self.power, &response.power);
         self.reserve += u64::from(*response.reserve.get(0));
         self.responses.push(response);
     }

@@ -15,9 +15,9 @@ ghost use Rattle.case_make.specs.Words.{moved_on};
 use crate::draws::{UnitDraws, draw_unit};
 use crate::growing::Growing;
 use crate::names::name_of_number;
-use crate::renewables::{draw_powers, full_response, renewable_of_powers};
+use crate::renewables::{draw_powers, full_output_schedule, renewable_of_powers};
 use crate::schedules::unit_schedule;
-use crate::units::unit_of_draws;
+use crate::units::thermal_unit_of_draws;
 use rand_pcg::Pcg32;
 use std::alloc::{AllocError, Global};
 use uc_model::cases::{Case, Plan};
@@ -36,14 +36,18 @@ pub const UNITS: u32 = THERMAL_UNITS + RENEWABLE_UNITS;
 const STREAM: u64 = 54;
 
 // The thermal unit of its draws, named.
-fn named_unit(alloc: Global, draws: &UnitDraws, number: u32) -> Result<NamedUnit, AllocError>
+fn named_thermal_unit_of_draws(
+    alloc: Global,
+    draws: &UnitDraws,
+    number: u32,
+) -> Result<NamedUnit, AllocError>
     requires draws { AreDrawn draws.now }
     requires number { number < 100 }
     ensures { IfOk result (λ n. named_thermal_of n
         ≡ record { name = name_of 84 number; unit = unit_of draws.now }) }
 {
     let name = name_of_number(alloc, b'T', number)?;
-    let unit = unit_of_draws(alloc, draws)?;
+    let unit = thermal_unit_of_draws(alloc, draws)?;
     Ok(NamedUnit { name, unit })
 }
 
@@ -68,7 +72,7 @@ fn add_unit(
 {
     let draws = draw_unit(random);
     plan.push(unit_schedule(alloc, &draws)?);
-    named_unit(alloc, &draws, number)
+    named_thermal_unit_of_draws(alloc, &draws, number)
 }
 
 fn add_thermal(
@@ -95,7 +99,11 @@ fn add_thermal(
 }
 
 // The renewable unit of its greatest powers, named.
-fn named_flat(alloc: Global, powers: &Powers, number: u32) -> Result<NamedFlat, AllocError>
+fn named_renewable_of_powers(
+    alloc: Global,
+    powers: &Powers,
+    number: u32,
+) -> Result<NamedFlat, AllocError>
     requires powers { ArePowers powers.now.items }
     requires number { number < 100 }
     ensures { IfOk result (λ n. named_renewable_of n
@@ -107,7 +115,7 @@ fn named_flat(alloc: Global, powers: &Powers, number: u32) -> Result<NamedFlat, 
 }
 
 // Draws the next renewable unit, names it, and adds its schedule.
-fn add_flat(
+fn add_renewable_unit(
     alloc: Global,
     random: &mut Pcg32,
     plan: &mut Growing,
@@ -126,8 +134,8 @@ fn add_flat(
     ensures room { OnOk result (plan.new.responses.spare + 1 ≡ plan.old.responses.spare) }
 {
     let powers = draw_powers(alloc, random)?;
-    let unit = named_flat(alloc, &powers, number)?;
-    plan.push(full_response(alloc, powers)?);
+    let unit = named_renewable_of_powers(alloc, &powers, number)?;
+    plan.push(full_output_schedule(alloc, powers)?);
     Ok(unit)
 }
 
@@ -147,7 +155,7 @@ fn add_renewables(
 {
     let mut units = FlatList::make(alloc, RENEWABLE_UNITS)?;
     for j in 0..RENEWABLE_UNITS {
-        let unit = add_flat(alloc, random, plan, j + 1)?;
+        let unit = add_renewable_unit(alloc, random, plan, j + 1)?;
         units.push(unit);
     }
     Ok(units)
@@ -175,7 +183,7 @@ fn draw_units(
 }
 
 // The case of these units, where demand and required reserve follow from a plan, with that plan.
-fn case_of(
+fn case_and_schedule_of_units(
     alloc: Global,
     plan: Growing,
     thermal: ThermalList,
@@ -222,5 +230,5 @@ pub fn make_case(alloc: Global, number: u64) -> Result<(Case, Plan), AllocError>
     let mut random = Pcg32::new(number, STREAM);
     let mut plan = Growing::make(alloc)?;
     let (thermal, flat) = draw_units(alloc, &mut random, &mut plan)?;
-    case_of(alloc, plan, thermal, flat)
+    case_and_schedule_of_units(alloc, plan, thermal, flat)
 }

@@ -51,7 +51,7 @@ pub fn renewable_of_powers(alloc: Global, powers: &Powers) -> Result<Renewable, 
 
 /// Its schedule.
 #[tactic(auto, unfolding(crate::specs::Drawn::full))]
-pub fn full_response(alloc: Global, power: Powers) -> Result<Response, AllocError>
+pub fn full_output_schedule(alloc: Global, power: Powers) -> Result<Response, AllocError>
     requires { ArePowers power.items }
     ensures { IfOk result (λ r. schedule_of r ≡ full power.items) }
 {

@@ -13,7 +13,7 @@ use uc_model::units::{Answered, Powers, Response};
 
 // Whether a period is one of high power; its place counts from 0.
 #[tactic(auto, unfolding(crate::specs::Drawn::is_high))]
-fn is_high(index: u32) -> bool
+fn is_peak_hour(index: u32) -> bool
     ensures { result ≡ is_high index }
 {
     let hour = index % 24;
@@ -21,25 +21,25 @@ fn is_high(index: u32) -> bool
 }
 
 #[tactic(auto, unfolding(crate::specs::Drawn::power_at))]
-fn power_in(index: u32, level: u32, high: u32) -> u32
+fn power_of_hour(index: u32, level: u32, high: u32) -> u32
     ensures { result ≡ power_at level high index }
 {
-    if is_high(index) { high } else { level }
+    if is_peak_hour(index) { high } else { level }
 }
 
-fn powers_of_level(alloc: Global, level: u32, high: u32) -> Result<Powers, AllocError>
+fn powers_with_peak_hours(alloc: Global, level: u32, high: u32) -> Result<Powers, AllocError>
     ensures { IfOk result (λ powers. powers.items
         ≡ map (power_at level high) (range_with_len 0 48)) }
 {
     let mut powers = Powers::make(alloc, PERIODS)?;
     for index in 0..PERIODS {
-        powers.push(power_in(index, level, high));
+        powers.push(power_of_hour(index, level, high));
     }
     Ok(powers)
 }
 
 #[tactic(auto, unfolding(crate::specs::Drawn::running))]
-fn running_response(
+fn schedule_of_running_unit(
     alloc: Global,
     level: u32,
     high: u32,
@@ -48,13 +48,13 @@ fn running_response(
     ensures { IfOk result (λ r. schedule_of r ≡ running level high reserve) }
 {
     let on = Flags::filled(alloc, PERIODS, true)?;
-    let power = powers_of_level(alloc, level, high)?;
+    let power = powers_with_peak_hours(alloc, level, high)?;
     let reserve = Powers::filled(alloc, PERIODS, reserve)?;
     Ok(Response { on, power, reserve })
 }
 
 #[tactic(auto, unfolding(crate::specs::Drawn::idle))]
-fn idle_response(alloc: Global) -> Result<Response, AllocError>
+fn schedule_of_idle_unit(alloc: Global) -> Result<Response, AllocError>
     ensures { IfOk result (λ r. schedule_of r ≡ idle) }
 {
     let answered = Answered::make(alloc, PERIODS)?;
@@ -69,7 +69,7 @@ pub fn unit_schedule(alloc: Global, draws: &UnitDraws) -> Result<Response, Alloc
     ensures { IfOk result (λ r. schedule_of r ≡ unit_schedule draws.now) }
 {
     if !draws.is_on() {
-        return idle_response(alloc);
+        return schedule_of_idle_unit(alloc);
     }
-    running_response(alloc, draws.level(), draws.high(), draws.reserve())
+    schedule_of_running_unit(alloc, draws.level(), draws.high(), draws.reserve())
 }

@@ -12,7 +12,7 @@ use std::alloc::{AllocError, Global};
 use uc_model::units::{Lag, Lags, Mark, Marks, Point, Points, Unit};
 
 // Money from 0 to 10^13.
-fn money_of(amount: u64) -> i64
+fn money_of_amount(amount: u64) -> i64
     requires { amount ≤ 10000000000000 }
     ensures { result ≡ pos amount }
 {
@@ -21,7 +21,7 @@ fn money_of(amount: u64) -> i64
 
 // A start costs more after a longer time down.
 #[tactic(auto, unfolding(crate::specs::Drawn::lags_of))]
-fn lags_of_draws(alloc: Global, draws: &UnitDraws) -> Result<Lags, AllocError>
+fn startup_lags_of_draws(alloc: Global, draws: &UnitDraws) -> Result<Lags, AllocError>
     requires { AreDrawn draws.now }
     ensures { IfOk result (λ lags. lags.items ≡ lags_of draws.now) }
 {
@@ -30,22 +30,22 @@ fn lags_of_draws(alloc: Global, draws: &UnitDraws) -> Result<Lags, AllocError>
     let mut lags = Lags::make(alloc, 3)?;
     lags.push(Lag {
         lag: first,
-        cost: money_of(cost),
+        cost: money_of_amount(cost),
     });
     lags.push(Lag {
         lag: first + 4,
-        cost: money_of(2 * cost),
+        cost: money_of_amount(2 * cost),
     });
     lags.push(Lag {
         lag: first + 12,
-        cost: money_of(3 * cost),
+        cost: money_of_amount(3 * cost),
     });
     Ok(lags)
 }
 
 // What the least power costs in a period.
 #[tactic(auto, unfolding(crate::specs::Drawn::cost_of))]
-fn first_cost(draws: &UnitDraws) -> u64
+fn cost_at_least_power(draws: &UnitDraws) -> u64
     requires { AreDrawn draws.now }
     ensures { result ≡ cost_of draws.now 0 }
 {
@@ -55,7 +55,7 @@ fn first_cost(draws: &UnitDraws) -> u64
 // What the power of the point after a place costs in a period, where that of the place's point
 // costs so much.
 #[tactic(auto, unfolding(crate::specs::Drawn::cost_of))]
-fn next_cost(draws: &UnitDraws, cost: u64, index: u32) -> u64
+fn cost_at_next_curve_point(draws: &UnitDraws, cost: u64, index: u32) -> u64
     requires draws { AreDrawn draws.now }
     requires index { index < 3 }
     requires cost { cost ≡ cost_of draws.now index }
@@ -74,7 +74,7 @@ fn cost_point(draws: &UnitDraws, cost: u64, index: u32) -> Point
 {
     Point {
         at: i64::from(draws.point_power(index)),
-        cost: money_of(cost),
+        cost: money_of_amount(cost),
     }
 }
 
@@ -84,17 +84,17 @@ fn cost_points(alloc: Global, draws: &UnitDraws) -> Result<Points, AllocError>
     ensures { IfOk result (λ points. points.items ≡ map (point_of draws.now) (range_with_len 0 4)) }
 {
     let mut points = Points::make(alloc, 4)?;
-    let mut cost = first_cost(draws);
+    let mut cost = cost_at_least_power(draws);
     points.push(cost_point(draws, cost, 0));
     for index in 0..3 {
-        cost = next_cost(draws, cost, index);
+        cost = cost_at_next_curve_point(draws, cost, index);
         points.push(cost_point(draws, cost, index + 1));
     }
     Ok(points)
 }
 
 // The power of the unit before the horizon, in kilowatts.
-fn first_power(draws: &UnitDraws) -> u32
+fn initial_power(draws: &UnitDraws) -> u32
     requires { AreDrawn draws.now }
     ensures { result ≡ (if is_on draws.now then level_of draws.now else 0) }
 {
@@ -102,25 +102,25 @@ fn first_power(draws: &UnitDraws) -> u32
 }
 
 // Periods on before the horizon.
-fn first_up(draws: &UnitDraws) -> u32
+fn initial_periods_on(draws: &UnitDraws) -> u32
     ensures { result ≡ (if is_on draws.now then 24 else 0) }
 {
     if draws.is_on() { 24 } else { 0 }
 }
 
 // Periods off before the horizon.
-fn first_down(draws: &UnitDraws) -> u32
+fn initial_periods_off(draws: &UnitDraws) -> u32
     ensures { result ≡ (if is_on draws.now then 0 else 24) }
 {
     if draws.is_on() { 0 } else { 24 }
 }
 
 /// The thermal unit of its draws.
-pub fn unit_of_draws(alloc: Global, draws: &UnitDraws) -> Result<Unit, AllocError>
+pub fn thermal_unit_of_draws(alloc: Global, draws: &UnitDraws) -> Result<Unit, AllocError>
     requires { AreDrawn draws.now }
     ensures { IfOk result (λ u. thermal_of u ≡ unit_of draws.now) }
 {
-    let lags = lags_of_draws(alloc, draws)?;
+    let lags = startup_lags_of_draws(alloc, draws)?;
     let points = cost_points(alloc, draws)?;
     let window = Marks::filled(alloc, PERIODS, Mark::Free)?;
     let limit = draws.min_power() + draws.ramp();
@@ -134,10 +134,10 @@ pub fn unit_of_draws(alloc: Global, draws: &UnitDraws) -> Result<Unit, AllocErro
         stop_limit: i64::from(limit),
         min_up: draws.min_up,
         min_down: draws.min_down,
-        power0: i64::from(first_power(draws)),
+        power0: i64::from(initial_power(draws)),
         on0: draws.is_on(),
-        up0: first_up(draws),
-        down0: first_down(draws),
+        up0: initial_periods_on(draws),
+        down0: initial_periods_off(draws),
         lags,
         points,
         window,

@@ -5,7 +5,7 @@ use Rattle.convex_search.proofs.Common.{IsUnit, IsMarket, ArePrices}
 use Rattle.plain_lists.proofs.ListLaws.{length_same}
 use Rattle.price_space.proofs.EarnedSums.{few_units}
 use Rattle.uc_model.specs.BoundLaws.{EarningsAreWithin}
-use Rattle.uc_model.specs.PlanLaws.{UnitsAreNumbered}
+use Rattle.uc_model.specs.PlanLaws.{UnitNumbersGoByKind}
 use Rattle.unit_program.specs.Tops.{AreTops}
 
 tops_earned : EarningsAreWithin → (π : PriceLists) → ArePrices π → (us : List AnyUnit) (es : List ℤ) → All IsUnit us →
@@ -25,7 +25,7 @@ all_earned law m π es prices limits tops = tops_earned law π prices (units m) 
 pub earned_count : (m : Market) (π : PriceLists) (es : List ℤ) → AreTops m π es → length es ≡ length (units m)
 earned_count m π es tops = sym (length_same (λ u e. IsTop u π e) (units m) es tops)
 
-pub few_earned : UnitsAreNumbered → (m : Market) (π : PriceLists) (es : List ℤ) → IsMarket m → AreTops m π es →
+pub few_earned : UnitNumbersGoByKind → (m : Market) (π : PriceLists) (es : List ℤ) → IsMarket m → AreTops m π es →
     length es ≤ 12288
 few_earned numbered m π es valid tops =
     let count = earned_count m π es tops in

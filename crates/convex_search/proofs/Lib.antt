@@ -5,4 +5,4 @@ pub mod Earning
 -- bounds.rt: a box with all prices in it
 pub mod Everywhere
 -- find.rt: one dual value
-pub mod OneValue
+pub mod JsonTextHasOneValue

@@ -39,7 +39,7 @@ pub fn is_bound_near_value(bound: i128, value: i128) -> bool
 }
 
 /// Whether one of the two holds.
-pub fn is_near(bound: i128, value: i128, within: i64) -> bool
+pub fn is_bound_within_or_near(bound: i128, value: i128, within: i64) -> bool
     requires bound { IsBound bound }
     requires value { IsWorth value }
     ensures { IsTrue result → IsNear within bound value }

@@ -28,7 +28,7 @@ pub fn bound_of_columns(search: &Search, case: &Case) -> i128
 }
 
 /// Takes the columns by their weights as the best mixture, with the bound that they give.
-pub fn take_columns(search: &mut Search, case: &Case, bound: i128)
+pub fn take_columns_as_best(search: &mut Search, case: &Case, bound: i128)
     requires search { IsSearch (market_of case.now) (places_in search.old.pool) search.old }
     requires bound { bound ≡ mixture_bound (market_of case.now) (mixture_of search.old.pool.columns)
         (prices_of search.old.best.prices) everywhere }

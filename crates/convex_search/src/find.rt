@@ -13,7 +13,7 @@ use crate::rounds::make_rounds;
 use crate::search::Search;
 use crate::short::shorten_mixture;
 use crate::start::open_search;
-use bundle_columns::written::weighed_mixture;
+use bundle_columns::written::mixture_without_zero_weights;
 use std::alloc::{AllocError, Global};
 use uc_model::cases::{Case, Plan};
 
@@ -46,7 +46,7 @@ fn finish_search(
         mixture,
         bound,
     } = best;
-    let mixture = weighed_mixture(alloc, case, places, &mixture)?;
+    let mixture = mixture_without_zero_weights(alloc, case, places, &mixture)?;
     Ok(Found {
         prices,
         mixture,

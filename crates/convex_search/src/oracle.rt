@@ -6,14 +6,14 @@ ghost use Rattle.unit_program.specs.Tops.{HasSchedules, AreTops};
 ghost use Rattle.bundle_columns.specs.Pools.{IsPool, places_in};
 ghost use Rattle.convex_search.specs.Searching.{IsOracle};
 
-use bundle_columns::pool::{Pool, keep_answer};
+use bundle_columns::pool::{Pool, add_answer_as_column};
 use plain_lists::lists::Numbers;
 use std::num::nearest_i64_to_f64;
 use uc_model::cases::Case;
-use uc_model::laws::units_are_numbered;
+use uc_model::laws::unit_numbers_go_by_kind;
 use uc_model::units::{Answered, Flow, Prices, Response};
-use unit_program::case_laws::units_can_answer;
-use unit_program::{Bench, LastAnswers, answer_numbered_unit};
+use unit_program::case_laws::feasible_units_can_answer;
+use unit_program::{Bench, LastAnswers, write_best_response_of_numbered_unit};
 
 /// What answers are worked out on.
 #[derive(Drop)]
@@ -53,7 +53,12 @@ fn write_zeros(numbers: &mut [f64]) {
 
 /// Asks each unit for its answer at prices, and keeps those of the thermal units as columns. Tells
 /// whether one is a new one. Leaves what each unit earns, and what all give. Takes no memory.
-pub fn answer_all(oracle: &mut Oracle, case: &Case, prices: &Prices, pool: &mut Pool) -> bool
+pub fn add_best_responses_as_columns(
+    oracle: &mut Oracle,
+    case: &Case,
+    prices: &Prices,
+    pool: &mut Pool,
+) -> bool
     requires some { HasSchedules (market_of case.now) }
     requires oracle { IsOracle (market_of case.now) oracle.old }
     requires horizon { length (prices_of prices.now).energy ≡ (market_of case.now).periods }
@@ -62,13 +67,13 @@ pub fn answer_all(oracle: &mut Oracle, case: &Case, prices: &Prices, pool: &mut 
     ensures oracle { IsOracle (market_of case.now) oracle.new }
     ensures pool { IsPool (market_of case.now) (places_in pool.old) pool.new }
 {
-    units_can_answer();
-    units_are_numbered();
+    feasible_units_can_answer();
+    unit_numbers_go_by_kind();
     oracle.earned.clear();
     write_zeros(&mut oracle.given);
     let mut is_new = false;
     for number in 0..case.unit_count() as usize {
-        let flow = answer_numbered_unit(
+        let flow = write_best_response_of_numbered_unit(
             &mut oracle.bench,
             &oracle.last,
             case,
@@ -78,7 +83,7 @@ pub fn answer_all(oracle: &mut Oracle, case: &Case, prices: &Prices, pool: &mut 
         );
         oracle.earned.push(oracle.answer.earned);
         add_response_totals(&mut oracle.given, flow, &oracle.answer.response);
-        let kept = keep_answer(pool, case, number, &oracle.answer.response);
+        let kept = add_answer_as_column(pool, case, number, &oracle.answer.response);
         is_new = is_new || kept;
     }
     is_new

@@ -60,19 +60,19 @@ pub struct Outcome {
 }
 
 /// What counts as near at a dual value, in the currency.
-pub fn nearness_at_value(value: f64) -> f64 {
+pub fn tolerance_at_value(value: f64) -> f64 {
     NEAR.max(NEAR_SHARE * value.abs())
 }
 
 /// How a search begins: with the dual value and the bound of its opening, and the sum of the
 /// squares of what the answers lack there.
-pub fn begin_pace(value: f64, bound: f64, squares: f64) -> Pace {
-    let near = nearness_at_value(value);
+pub fn step_size_from_gap(value: f64, bound: f64, squares: f64) -> Pace {
+    let near = tolerance_at_value(value);
     let gap = (bound - value).max(near);
     Pace {
         near,
         gap,
-        reach: limited_reach(gap / squares.max(1.0)),
+        reach: clamped_step_size(gap / squares.max(1.0)),
         close: false,
         nulls: 0,
         late: 0,
@@ -80,29 +80,29 @@ pub fn begin_pace(value: f64, bound: f64, squares: f64) -> Pace {
     }
 }
 
-fn limited_reach(reach: f64) -> f64 {
+fn clamped_step_size(reach: f64) -> f64 {
     reach.min(MOST_REACH).max(LEAST_REACH)
 }
 
 impl Pace {
     /// How near the products of the master problem have to come to 0.
-    pub fn accuracy(&self) -> f64 {
+    pub fn complementarity_tolerance(&self) -> f64 {
         (ACCURACY * self.near).max(ACCURACY * self.gap)
     }
 
     /// Where they start.
-    pub fn wide(&self) -> f64 {
+    pub fn initial_complementarity(&self) -> f64 {
         let wide = if self.close { WIDE_CLOSE } else { WIDE };
         wide * self.gap
     }
 
     /// After a master problem that wasn't solved.
-    pub fn shorten(&mut self) {
-        self.reach = limited_reach(self.reach / GROWTH);
+    pub fn shorten_step_size(&mut self) {
+        self.reach = clamped_step_size(self.reach / GROWTH);
     }
 
     // Whether the round is one that counts: the centre moves, and the reach grows.
-    fn grows(&self, outcome: Outcome) -> Option<f64> {
+    fn growth_of_step_size(&self, outcome: Outcome) -> Option<f64> {
         let foretold = outcome.now - self.centre_value;
         if outcome.value - self.centre_value > BETTER * foretold {
             return Some(UP);
@@ -116,7 +116,7 @@ impl Pace {
     }
 
     // After a round without a rise.
-    fn wait(&mut self) {
+    fn count_null_step(&mut self) {
         self.nulls = self.nulls.saturating_add(1);
         if self.nulls < PATIENCE {
             return;
@@ -131,16 +131,16 @@ impl Pace {
 
     /// Goes on from what a round came to. Tells whether the centre moves to the round's prices.
     pub fn step(&mut self, outcome: Outcome) -> bool {
-        let grown = self.grows(outcome);
+        let grown = self.growth_of_step_size(outcome);
         match grown {
             Some(growth) => {
                 self.reach *= growth;
                 self.nulls = 0;
                 self.centre_value = outcome.value;
             }
-            None => self.wait(),
+            None => self.count_null_step(),
         }
-        self.reach = limited_reach(self.reach);
+        self.reach = clamped_step_size(self.reach);
         self.gap = (outcome.now - outcome.best).max(self.near);
         self.close = self.gap < CLOSE * self.near || !outcome.is_new;
         grown.is_some()

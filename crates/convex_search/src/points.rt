@@ -55,7 +55,7 @@ pub fn least_price_of_row(row: usize, periods: usize) -> f64 {
 }
 
 /// Leaves the point that is so far from one point through another, within the limits.
-pub fn go_through(from: &[f64], through: &[f64], far: f64, into: &mut [f64])
+pub fn extrapolate_point(from: &[f64], through: &[f64], far: f64, into: &mut [f64])
     requires through { length through.now ≡ length from.now }
     requires into { length into.old ≡ length from.now }
 {

@@ -8,12 +8,14 @@ ghost use Rattle.convex_search.specs.FoundPrices.{IsNear};
 ghost use Rattle.bundle_columns.specs.Pools.{places_in};
 ghost use Rattle.convex_search.specs.Searching.{IsSearch};
 
-use crate::best::{Best, is_bound_within, is_near};
-use crate::bounds::{bound_of_columns, take_columns};
+use crate::best::{Best, is_bound_within, is_bound_within_or_near};
+use crate::bounds::{bound_of_columns, take_columns_as_best};
 use crate::goals::Goal;
-use crate::pace::{Outcome, Pace, begin_pace};
-use crate::points::{HIGHEST, go_through, least_price_of_row};
-use crate::search::{Asked, Search, ask_at_point, ask_at_trial, in_currency};
+use crate::pace::{Outcome, Pace, step_size_from_gap};
+use crate::points::{HIGHEST, extrapolate_point, least_price_of_row};
+use crate::search::{
+    Asked, Search, ask_units_at_round_point, ask_units_at_trial_point, in_currency,
+};
 use bundle_columns::pool::weigh_columns;
 use bundle_master::master::Aim;
 use bundle_master::numbers::in_megawatts;
@@ -37,7 +39,7 @@ const WAYS: [f64; 12] = [
 
 // What the answers lack in all rows: the sum of the squares. Reserve beyond what is required lacks
 // nothing.
-fn lacking_squares(search: &Search, case: &Case) -> f64
+fn sum_of_squared_imbalances(search: &Search, case: &Case) -> f64
     requires { IsSearch (market_of case.now) (places_in search.now.pool) search.now }
 {
     let periods = case.periods as usize;
@@ -51,16 +53,16 @@ fn lacking_squares(search: &Search, case: &Case) -> f64
     sum
 }
 
-fn first_pace(search: &Search, case: &Case) -> Pace
+fn first_step_size_of_search(search: &Search, case: &Case) -> Pace
     requires { IsSearch (market_of case.now) (places_in search.now.pool) search.now }
 {
     let value = in_currency(search.best.value);
     let bound = in_currency(search.best.bound);
-    begin_pace(value, bound, lacking_squares(search, case))
+    step_size_from_gap(value, bound, sum_of_squared_imbalances(search, case))
 }
 
 /// Puts the centre into the master problem, and its prices there too, or just inside the limits.
-pub fn go_to_centre(search: &mut Search, case: &Case)
+pub fn write_centre_into_master(search: &mut Search, case: &Case)
     requires { IsSearch (market_of case.now) (places_in search.old.pool) search.old }
     ensures search { IsSearch (market_of case.now) (places_in search.old.pool) search.new }
     ensures best { search.new.best ≡ search.old.best }
@@ -87,7 +89,7 @@ fn take_master_prices(search: &mut Search, case: &Case)
 {
     let periods = case.periods as usize;
     for row in 0..2 * periods {
-        search.point[row] = search.pool.master.price(row);
+        search.point[row] = search.pool.master.row_price(row);
     }
 }
 
@@ -99,7 +101,7 @@ fn prove_bound(search: &mut Search, case: &Case)
     weigh_columns(&mut search.pool, case);
     let bound = bound_of_columns(search, case);
     if bound < search.best.bound {
-        take_columns(search, case, bound);
+        take_columns_as_best(search, case, bound);
     }
 }
 
@@ -115,23 +117,23 @@ fn trial_count(case: &Case) -> usize
 }
 
 // Asks at the prices of the round, and at others on the way to them, and goes on from the best.
-fn ask_on_ways(search: &mut Search, case: &Case) -> Asked
+fn ask_units_along_line(search: &mut Search, case: &Case) -> Asked
     requires some { HasSchedules (market_of case.now) }
     requires search { IsSearch (market_of case.now) (places_in search.old.pool) search.old }
     ensures { IsSearch (market_of case.now) (places_in search.old.pool) search.new }
 {
-    let mut asked = ask_at_point(search, case);
+    let mut asked = ask_units_at_round_point(search, case);
     let mut best = 1.0;
     for way in 0..trial_count(case) {
-        go_through(&search.centre, &search.point, WAYS[way], &mut search.trial);
-        let other = ask_at_trial(search, case);
+        extrapolate_point(&search.centre, &search.point, WAYS[way], &mut search.trial);
+        let other = ask_units_at_trial_point(search, case);
         asked.is_new = asked.is_new || other.is_new;
         if other.value > asked.value {
             asked.value = other.value;
             best = WAYS[way];
         }
     }
-    go_through(&search.centre, &search.point, best, &mut search.trial);
+    extrapolate_point(&search.centre, &search.point, best, &mut search.trial);
     asked
 }
 
@@ -141,17 +143,17 @@ fn make_round(search: &mut Search, case: &Case, pace: &mut Pace)
     requires search { IsSearch (market_of case.now) (places_in search.old.pool) search.old }
     ensures { IsSearch (market_of case.now) (places_in search.old.pool) search.new }
 {
-    go_to_centre(search, case);
+    write_centre_into_master(search, case);
     let aim = Aim {
         ridge: 1.0 / pace.reach,
-        accuracy: pace.accuracy(),
-        wide: pace.wide(),
+        accuracy: pace.complementarity_tolerance(),
+        wide: pace.initial_complementarity(),
         strict: pace.close,
-        balance: pace.accuracy(),
+        balance: pace.complementarity_tolerance(),
         steps: STEPS,
     };
     if !search.pool.master.solve(aim) {
-        pace.shorten();
+        pace.shorten_step_size();
         return;
     }
     take_master_prices(search, case);
@@ -159,8 +161,8 @@ fn make_round(search: &mut Search, case: &Case, pace: &mut Pace)
         pace.late = pace.late.saturating_add(1);
         prove_bound(search, case);
     }
-    let standing = search.pool.master.standing();
-    let asked = ask_on_ways(search, case);
+    let standing = search.pool.master.summary_of_last_solution();
+    let asked = ask_units_along_line(search, case);
     let outcome = Outcome {
         now: standing.now,
         products: standing.products,
@@ -182,7 +184,7 @@ fn is_done(best: &Best, within: i64, late: u32) -> bool
     if late < LATE {
         return is_bound_within(best.bound, best.value, within);
     }
-    is_near(best.bound, best.value, within)
+    is_bound_within_or_near(best.bound, best.value, within)
 }
 
 /// Makes rounds until the goal is reached. Tells how many.
@@ -194,7 +196,7 @@ pub fn make_rounds(search: &mut Search, case: &Case, goal: Goal) -> u32
     ensures near { result < goal.rounds
         → IsNear goal.within search.new.best.bound search.new.best.value }
 {
-    let mut pace = first_pace(search, case);
+    let mut pace = first_step_size_of_search(search, case);
     for made in 0..goal.rounds {
         if is_done(&search.best, goal.within, pace.late) {
             return made;

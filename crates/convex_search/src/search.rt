@@ -9,7 +9,7 @@ ghost use Rattle.bundle_columns.specs.Pools.{places_in};
 ghost use Rattle.convex_search.specs.Searching.{IsSearch};
 
 use crate::best::Best;
-use crate::oracle::{Oracle, answer_all};
+use crate::oracle::{Oracle, add_best_responses_as_columns};
 use crate::points::round_prices;
 use bundle_columns::copies::copy_prices;
 use bundle_columns::pool::Pool;
@@ -17,7 +17,7 @@ use price_space::{dual_value, earned_sum};
 use std::num::nearest_i64_to_f64;
 use uc_model::cases::Case;
 use uc_model::laws::{
-    dual_values_are_within, earned_sums_are_within, earnings_are_within, units_are_numbered,
+    dual_values_are_within, earned_sums_are_within, earnings_are_within, unit_numbers_go_by_kind,
     units_are_within,
 };
 use uc_model::units::Prices;
@@ -63,7 +63,7 @@ pub fn value_at(case: &Case, prices: &Prices, earned: &[i64]) -> i128
     ensures value { IsDualValue (market_of case.now) (prices_of prices.now) result }
     ensures size { IsWorth result }
 {
-    units_are_numbered();
+    unit_numbers_go_by_kind();
     units_are_within();
     earnings_are_within();
     earned_sums_are_within();
@@ -72,12 +72,17 @@ pub fn value_at(case: &Case, prices: &Prices, earned: &[i64]) -> i128
 }
 
 /// Asks all units at the prices that are to be asked at; keeps the prices where they are better.
-pub fn ask_units(search: &mut Search, case: &Case) -> Asked
+pub fn ask_units_and_keep_better_prices(search: &mut Search, case: &Case) -> Asked
     requires some { HasSchedules (market_of case.now) }
     requires search { IsSearch (market_of case.now) (places_in search.old.pool) search.old }
     ensures { IsSearch (market_of case.now) (places_in search.old.pool) search.new }
 {
-    let is_new = answer_all(&mut search.oracle, case, &search.asked, &mut search.pool);
+    let is_new = add_best_responses_as_columns(
+        &mut search.oracle,
+        case,
+        &search.asked,
+        &mut search.pool,
+    );
     let value = value_at(case, &search.asked, search.oracle.earned.as_slice());
     if value > search.best.value {
         copy_prices(&search.asked, &mut search.best.prices);
@@ -87,21 +92,21 @@ pub fn ask_units(search: &mut Search, case: &Case) -> Asked
 }
 
 /// The same at the whole prices that are nearest to the point of the round.
-pub fn ask_at_point(search: &mut Search, case: &Case) -> Asked
+pub fn ask_units_at_round_point(search: &mut Search, case: &Case) -> Asked
     requires some { HasSchedules (market_of case.now) }
     requires search { IsSearch (market_of case.now) (places_in search.old.pool) search.old }
     ensures { IsSearch (market_of case.now) (places_in search.old.pool) search.new }
 {
     round_prices(&search.point, &mut search.asked);
-    ask_units(search, case)
+    ask_units_and_keep_better_prices(search, case)
 }
 
 /// And at those nearest to the other point.
-pub fn ask_at_trial(search: &mut Search, case: &Case) -> Asked
+pub fn ask_units_at_trial_point(search: &mut Search, case: &Case) -> Asked
     requires some { HasSchedules (market_of case.now) }
     requires search { IsSearch (market_of case.now) (places_in search.old.pool) search.old }
     ensures { IsSearch (market_of case.now) (places_in search.old.pool) search.new }
 {
     round_prices(&search.trial, &mut search.asked);
-    ask_units(search, case)
+    ask_units_and_keep_better_prices(search, case)
 }

@@ -7,16 +7,16 @@ ghost use Rattle.convex_search.specs.FoundPrices.{IsNear};
 ghost use Rattle.bundle_columns.specs.Pools.{IsPool, places_in};
 ghost use Rattle.convex_search.specs.Searching.{IsSearch};
 
-use crate::best::{Best, is_bound_near_value, is_bound_within, is_near};
-use crate::bounds::{bound_of_columns, take_columns};
+use crate::best::{Best, is_bound_near_value, is_bound_within, is_bound_within_or_near};
+use crate::bounds::{bound_of_columns, take_columns_as_best};
 use crate::goals::Goal;
-use crate::pace::nearness_at_value;
+use crate::pace::tolerance_at_value;
 use crate::points::write_prices_as_point;
-use crate::rounds::go_to_centre;
+use crate::rounds::write_centre_into_master;
 use crate::search::{Search, in_currency};
 use bundle_columns::copies::copy_mixture;
 use bundle_columns::pool::{Pool, weigh_columns};
-use bundle_columns::weights::{WHOLE, deal_weights, weight_at};
+use bundle_columns::weights::{WHOLE, redistribute_entry_weights, weight_at};
 use bundle_master::master::Aim;
 use bundle_master::numbers::{floor_within, in_megawatts};
 use gap_proof::Entries;
@@ -54,7 +54,7 @@ const RIDGE: f64 = 1e-4;
 const STEPS: usize = 150;
 
 // Writes the weights without those below a threshold, the others grown to the whole.
-fn write_wanted_weights(entries: &Entries, threshold: i64, wanted: &mut Numbers)
+fn write_weights_above_threshold(entries: &Entries, threshold: i64, wanted: &mut Numbers)
     requires { length wanted.old.items ≡ length entries.now.items }
     ensures { length wanted.new.items ≡ length wanted.old.items }
 {
@@ -75,31 +75,31 @@ fn write_wanted_weights(entries: &Entries, threshold: i64, wanted: &mut Numbers)
 }
 
 // Leaves out the entries of a unit that are below a threshold.
-fn leave_out_of_unit(pool: &mut Pool, case: &Case, number: usize, threshold: i64)
+fn leave_out_light_columns_of_unit(pool: &mut Pool, case: &Case, number: usize, threshold: i64)
     requires pool { IsPool (market_of case.now) (places_in pool.old) pool.old }
     requires number { number < length (market_of case.now).thermal }
     ensures { IsPool (market_of case.now) (places_in pool.old) pool.new }
 {
-    write_wanted_weights(
+    write_weights_above_threshold(
         pool.columns.thermal.get(number),
         threshold,
         &mut pool.wanted,
     );
-    deal_weights(pool.columns.thermal.get_mut(number), &pool.wanted);
+    redistribute_entry_weights(pool.columns.thermal.get_mut(number), &pool.wanted);
 }
 
 // Leaves out, unit by unit, the columns below the threshold.
-fn leave_out_columns(pool: &mut Pool, case: &Case, threshold: i64)
+fn leave_out_light_columns(pool: &mut Pool, case: &Case, threshold: i64)
     requires { IsPool (market_of case.now) (places_in pool.old) pool.old }
     ensures { IsPool (market_of case.now) (places_in pool.old) pool.new }
 {
     for number in 0..case.thermal.len() {
-        leave_out_of_unit(pool, case, number, threshold);
+        leave_out_light_columns_of_unit(pool, case, number, threshold);
     }
 }
 
 // The greatest distance that a shorter mixture may have.
-fn most_distance(best: &Best, within: i64) -> i128
+fn greatest_allowed_duality_gap(best: &Best, within: i64) -> i128
     requires bound { IsBound best.now.bound }
     requires value { IsWorth best.now.value }
 {
@@ -115,7 +115,7 @@ fn most_distance(best: &Best, within: i64) -> i128
 }
 
 // Whether a bound may stand in place of a lesser one: a search that has ended early stays near.
-fn may_take_bound(best: &Best, bound: i128, most: i128, goal: Goal, made: u32) -> bool
+fn is_bound_within_allowed_gap(best: &Best, bound: i128, most: i128, goal: Goal, made: u32) -> bool
     requires bound { IsBound bound }
     requires value { IsWorth best.now.value }
     ensures { IsTrue result → made < goal.rounds → IsNear goal.within bound best.now.value }
@@ -124,13 +124,13 @@ fn may_take_bound(best: &Best, bound: i128, most: i128, goal: Goal, made: u32) -
         return false;
     }
     if made < goal.rounds {
-        return is_near(bound, best.value, goal.within);
+        return is_bound_within_or_near(bound, best.value, goal.within);
     }
     true
 }
 
 // Takes the columns but for those below a threshold, where the bound allows it; tells whether it does.
-fn take_columns_above(
+fn take_columns_above_threshold(
     search: &mut Search,
     case: &Case,
     threshold: i64,
@@ -145,12 +145,12 @@ fn take_columns_above(
     ensures near { made < goal.rounds
         → IsNear goal.within search.new.best.bound search.new.best.value }
 {
-    leave_out_columns(&mut search.pool, case, threshold);
+    leave_out_light_columns(&mut search.pool, case, threshold);
     let bound = bound_of_columns(search, case);
-    if !may_take_bound(&search.best, bound, most, goal, made) {
+    if !is_bound_within_allowed_gap(&search.best, bound, most, goal, made) {
         return false;
     }
-    take_columns(search, case, bound);
+    take_columns_as_best(search, case, bound);
     true
 }
 
@@ -165,13 +165,13 @@ fn solve_perturbed(search: &mut Search, case: &Case, most: i128) -> bool
     let distance = in_currency(search.best.bound) - value;
     let left = (in_currency(most) - distance).max(0.0);
     let amount = PERTURBATION * left / in_megawatts(1000 * case.thermal.len() as i64).max(1.0);
-    search.pool.master.perturb(amount);
+    search.pool.master.perturb_column_costs(amount);
     write_prices_as_point(&search.best.prices, &mut search.centre);
-    go_to_centre(search, case);
+    write_centre_into_master(search, case);
     search.pool.master.solve(Aim {
         ridge: RIDGE,
         accuracy: ACCURACY * amount,
-        wide: WIDE * nearness_at_value(value),
+        wide: WIDE * tolerance_at_value(value),
         strict: true,
         balance: BALANCE * left,
         steps: STEPS,
@@ -180,7 +180,13 @@ fn solve_perturbed(search: &mut Search, case: &Case, most: i128) -> bool
 
 // Takes the shares of a master problem in which few columns have one, and leaves out those of little
 // weight; tells whether the bound allows it.
-fn shorten_solution(search: &mut Search, case: &Case, most: i128, goal: Goal, made: u32) -> bool
+fn shorten_mixture_of_master(
+    search: &mut Search,
+    case: &Case,
+    most: i128,
+    goal: Goal,
+    made: u32,
+) -> bool
     requires search { IsSearch (market_of case.now) (places_in search.old.pool) search.old }
     requires near { made < goal.rounds
         → IsNear goal.within search.old.best.bound search.old.best.value }
@@ -193,7 +199,7 @@ fn shorten_solution(search: &mut Search, case: &Case, most: i128, goal: Goal, ma
     }
     for step in 0..THRESHOLDS.len() {
         weigh_columns(&mut search.pool, case);
-        if take_columns_above(search, case, THRESHOLDS[step], most, goal, made) {
+        if take_columns_above_threshold(search, case, THRESHOLDS[step], most, goal, made) {
             return true;
         }
     }
@@ -201,7 +207,7 @@ fn shorten_solution(search: &mut Search, case: &Case, most: i128, goal: Goal, ma
 }
 
 // Leaves entries of little weight out of the best mixture, as far as the bound allows.
-fn shorten_best(search: &mut Search, case: &Case, most: i128, goal: Goal, made: u32)
+fn shorten_best_mixture(search: &mut Search, case: &Case, most: i128, goal: Goal, made: u32)
     requires search { IsSearch (market_of case.now) (places_in search.old.pool) search.old }
     requires near { made < goal.rounds
         → IsNear goal.within search.old.best.bound search.old.best.value }
@@ -213,7 +219,7 @@ fn shorten_best(search: &mut Search, case: &Case, most: i128, goal: Goal, made: 
     for step in 0..THRESHOLDS.len() {
         let columns = &mut search.pool.columns;
         copy_mixture(case, places, &search.best.mixture, columns);
-        if take_columns_above(search, case, THRESHOLDS[step], most, goal, made) {
+        if take_columns_above_threshold(search, case, THRESHOLDS[step], most, goal, made) {
             return;
         }
     }
@@ -229,8 +235,8 @@ pub fn shorten_mixture(search: &mut Search, case: &Case, goal: Goal, made: u32)
     ensures near { made < goal.rounds
         → IsNear goal.within search.new.best.bound search.new.best.value }
 {
-    let most = most_distance(&search.best, goal.within);
-    if !shorten_solution(search, case, most, goal, made) {
-        shorten_best(search, case, most, goal, made);
+    let most = greatest_allowed_duality_gap(&search.best, goal.within);
+    if !shorten_mixture_of_master(search, case, most, goal, made) {
+        shorten_best_mixture(search, case, most, goal, made);
     }
 }

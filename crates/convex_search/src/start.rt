@@ -10,11 +10,11 @@ ghost use Rattle.convex_search.specs.Starting.{IsProblem};
 use crate::best::Best;
 use crate::bounds::EVERYWHERE;
 use crate::opening::first_prices;
-use crate::oracle::{Oracle, answer_all};
+use crate::oracle::{Oracle, add_best_responses_as_columns};
 use crate::points::write_prices_as_point;
 use crate::search::{Search, value_at};
-use bundle_columns::plans::plan_mixture;
-use bundle_columns::pool::{Pool, keep_column};
+use bundle_columns::plans::mixture_of_plan;
+use bundle_columns::pool::{Pool, add_column_if_new};
 use bundle_master::master::{Master, Sizes, make_master};
 use bundle_master::numbers::in_megawatts;
 use gap_proof::bound_of_mixture;
@@ -22,7 +22,7 @@ use plain_lists::lists::Numbers;
 use std::alloc::{AllocError, Global};
 use uc_model::cases::{Case, Plan};
 use uc_model::units::{Answered, Block};
-use unit_program::{LastAnswers, bench_for};
+use unit_program::{LastAnswers, make_bench_for_case};
 
 /// Places for columns of all thermal units, for each period at least so many, and of one unit.
 const ALL_PLACES: usize = 3600;
@@ -35,7 +35,7 @@ const FEWEST_PLACES: usize = 12;
 const MOST_SINGLES: usize = 4_000_000_000;
 
 // How many columns each thermal unit has room for.
-fn place_count(case: &Case) -> usize
+fn column_capacity_of_unit(case: &Case) -> usize
     ensures some { 1 ≤ result }
     ensures most { result ≤ 1000 }
 {
@@ -46,7 +46,7 @@ fn place_count(case: &Case) -> usize
 }
 
 // How many variables of one row there may be: one for each period, and one for each block.
-fn single_count(case: &Case) -> usize
+fn single_row_variable_count(case: &Case) -> usize
     ensures { result < 2 ^ 32 }
 {
     let mut count = case.periods as usize;
@@ -92,7 +92,7 @@ fn renewable_range_in_period(case: &Case, k: usize) -> Range
 }
 
 // The blocks of the bid of a number in a period.
-fn blocks_of(case: &Case, number: usize, k: usize) -> &[Block]
+fn bid_blocks_in_period(case: &Case, number: usize, k: usize) -> &[Block]
     requires number { number < length (market_of case.now).bids }
     requires index { k < (market_of case.now).periods }
 {
@@ -100,22 +100,22 @@ fn blocks_of(case: &Case, number: usize, k: usize) -> &[Block]
 }
 
 // Writes what is due in each row.
-fn write_due(master: &mut Master, case: &Case)
+fn write_demand_and_reserve_rows(master: &mut Master, case: &Case)
     requires { master.old.periods ≡ (market_of case.now).periods }
     ensures { master.new ≡ master.old }
 {
     let periods = case.periods as usize;
     for k in 0..periods {
-        master.set_due(
+        master.set_requirement_of_row(
             k,
             in_megawatts(*case.demand.get(k)) - renewable_range_in_period(case, k).least,
         );
-        master.set_due(periods + k, in_megawatts(*case.reserves.get(k)));
+        master.set_requirement_of_row(periods + k, in_megawatts(*case.reserves.get(k)));
     }
 }
 
 // Adds what renewable units may give in each period. Tells how much room is left.
-fn add_renewable(master: &mut Master, case: &Case, room: usize) -> usize
+fn add_renewable_variables(master: &mut Master, case: &Case, room: usize) -> usize
     requires problem { IsProblem (market_of case.now) master.old.places master.old }
     requires room { room ≤ master.old.room }
     ensures room { result ≤ master.new.room }
@@ -126,7 +126,7 @@ fn add_renewable(master: &mut Master, case: &Case, room: usize) -> usize
         let range = renewable_range_in_period(case, k);
         let amount = range.most - range.least;
         if amount > 0.0 && left > 0 {
-            master.add_single(k, amount, 0.0);
+            master.add_row_variable(k, amount, 0.0);
             left -= 1;
         }
     }
@@ -134,7 +134,13 @@ fn add_renewable(master: &mut Master, case: &Case, room: usize) -> usize
 }
 
 // Adds what blocks may take in a period. Tells how much room is left.
-fn add_blocks_at(master: &mut Master, case: &Case, blocks: &[Block], k: usize, room: usize) -> usize
+fn add_block_variables_in_period(
+    master: &mut Master,
+    case: &Case,
+    blocks: &[Block],
+    k: usize,
+    room: usize,
+) -> usize
     requires problem { IsProblem (market_of case.now) master.old.places master.old }
     requires index { k < (market_of case.now).periods }
     requires room { room ≤ master.old.room }
@@ -145,7 +151,7 @@ fn add_blocks_at(master: &mut Master, case: &Case, blocks: &[Block], k: usize, r
     for block in blocks {
         if block.width > 0 && left > 0 {
             let amount = in_megawatts(block.width);
-            master.add_single(k, -amount, -amount * in_megawatts(block.price));
+            master.add_row_variable(k, -amount, -amount * in_megawatts(block.price));
             left -= 1;
         }
     }
@@ -153,7 +159,7 @@ fn add_blocks_at(master: &mut Master, case: &Case, blocks: &[Block], k: usize, r
 }
 
 // Adds what the blocks of a bid may take. Tells how much room is left.
-fn add_bid(master: &mut Master, case: &Case, number: usize, room: usize) -> usize
+fn add_block_variables_of_bid(master: &mut Master, case: &Case, number: usize, room: usize) -> usize
     requires problem { IsProblem (market_of case.now) master.old.places master.old }
     requires number { number < length (market_of case.now).bids }
     requires room { room ≤ master.old.room }
@@ -162,20 +168,26 @@ fn add_bid(master: &mut Master, case: &Case, number: usize, room: usize) -> usiz
 {
     let mut left = room;
     for k in 0..case.periods as usize {
-        left = add_blocks_at(master, case, blocks_of(case, number, k), k, left);
+        left = add_block_variables_in_period(
+            master,
+            case,
+            bid_blocks_in_period(case, number, k),
+            k,
+            left,
+        );
     }
     left
 }
 
 // Adds what the blocks of all bids may take.
-fn add_blocks(master: &mut Master, case: &Case, room: usize)
+fn add_block_variables(master: &mut Master, case: &Case, room: usize)
     requires problem { IsProblem (market_of case.now) master.old.places master.old }
     requires room { room ≤ master.old.room }
     ensures { IsProblem (market_of case.now) master.old.places master.new }
 {
     let mut left = room;
     for number in 0..case.bids.len() {
-        left = add_bid(master, case, number, left);
+        left = add_block_variables_of_bid(master, case, number, left);
     }
 }
 
@@ -184,7 +196,7 @@ fn make_problem(alloc: Global, case: &Case, places: usize) -> Result<Master, All
     requires most { places ≤ 1000 }
     ensures { IfOk result (λ master. IsProblem (market_of case.now) places master) }
 {
-    let singles = single_count(case);
+    let singles = single_row_variable_count(case);
     let sizes = Sizes {
         periods: case.periods as usize,
         thermal: case.thermal.len(),
@@ -192,9 +204,9 @@ fn make_problem(alloc: Global, case: &Case, places: usize) -> Result<Master, All
         singles,
     };
     let mut master = make_master(alloc, sizes)?;
-    write_due(&mut master, case);
-    let left = add_renewable(&mut master, case, singles);
-    add_blocks(&mut master, case, left);
+    write_demand_and_reserve_rows(&mut master, case);
+    let left = add_renewable_variables(&mut master, case, singles);
+    add_block_variables(&mut master, case, left);
     Ok(master)
 }
 
@@ -204,7 +216,7 @@ fn make_pool(alloc: Global, case: &Case, plan: &Plan, places: usize) -> Result<P
     requires most { places ≤ 1000 }
     ensures { IfOk result (λ pool. IsPool (market_of case.now) places pool) }
 {
-    let columns = plan_mixture(alloc, case, plan, places as u32)?;
+    let columns = mixture_of_plan(alloc, case, plan, places as u32)?;
     let wanted = Numbers::filled(alloc, places as u32, 0)?;
     let power = Numbers::filled(alloc, case.periods, 0)?;
     let reserve = Numbers::filled(alloc, case.periods, 0)?;
@@ -225,7 +237,7 @@ fn make_oracle(alloc: Global, case: &Case) -> Result<Oracle, AllocError>
     let earned = Numbers::make(alloc, case.unit_count())?;
     let given = vec![in alloc; 0.0; 2 * case.periods as usize]?;
     let last = LastAnswers::make(alloc, case.thermal.len() as u32, case.periods)?;
-    let bench = bench_for(alloc, case)?;
+    let bench = make_bench_for_case(alloc, case)?;
     Ok(Oracle {
         bench,
         last,
@@ -236,18 +248,18 @@ fn make_oracle(alloc: Global, case: &Case) -> Result<Oracle, AllocError>
 }
 
 // Keeps the plan's schedules as columns.
-fn keep_plan(pool: &mut Pool, case: &Case, plan: &Plan)
+fn add_plan_columns(pool: &mut Pool, case: &Case, plan: &Plan)
     requires feasible { IsFeasiblePlan (market_of case.now) (schedules_of plan.now) }
     requires pool { IsPool (market_of case.now) (places_in pool.old) pool.old }
     ensures { IsPool (market_of case.now) (places_in pool.old) pool.new }
 {
     for number in 0..case.thermal.len() {
-        let _ = keep_column(pool, case, number, plan.responses.get(number));
+        let _ = add_column_if_new(pool, case, number, plan.responses.get(number));
     }
 }
 
 // The start prices with their value, and the plan as a mixture with its bound.
-fn first_best(
+fn best_at_start_of_search(
     alloc: Global,
     case: &Case,
     plan: &Plan,
@@ -261,10 +273,10 @@ fn first_best(
     ensures oracle { IfOk result (λ best. IsOracle (market_of case.now) oracle.new) }
     ensures pool { IfOk result (λ best. IsPool (market_of case.now) (places_in pool.old) pool.new) }
 {
-    let mixture = plan_mixture(alloc, case, plan, pool.wanted.len() as u32)?;
+    let mixture = mixture_of_plan(alloc, case, plan, pool.wanted.len() as u32)?;
     let prices = first_prices(alloc, case)?;
     let bound = bound_of_mixture(case, &mixture, &prices, EVERYWHERE);
-    let _ = answer_all(oracle, case, &prices, pool);
+    let _ = add_best_responses_as_columns(oracle, case, &prices, pool);
     let value = value_at(case, &prices, oracle.earned.as_slice());
     Ok(Best {
         prices,
@@ -279,10 +291,10 @@ pub fn open_search(alloc: Global, case: &Case, plan: &Plan) -> Result<Search, Al
     requires { IsFeasiblePlan (market_of case.now) (schedules_of plan.now) }
     ensures { IfOk result (λ s. IsSearch (market_of case.now) (places_in s.pool) s) }
 {
-    let mut pool = make_pool(alloc, case, plan, place_count(case))?;
-    keep_plan(&mut pool, case, plan);
+    let mut pool = make_pool(alloc, case, plan, column_capacity_of_unit(case))?;
+    add_plan_columns(&mut pool, case, plan);
     let mut oracle = make_oracle(alloc, case)?;
-    let best = first_best(alloc, case, plan, &mut oracle, &mut pool)?;
+    let best = best_at_start_of_search(alloc, case, plan, &mut oracle, &mut pool)?;
     let asked = first_prices(alloc, case)?;
     let rows = 2 * case.periods as usize;
     let mut centre = vec![in alloc; 0.0; rows]?;

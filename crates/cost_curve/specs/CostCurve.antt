@@ -30,8 +30,8 @@ pub record IsCostCurve (ps : List Point) (c : Curve) : Type 0 where
   pub count : length c.blocks.items ≤ 2 * (length ps - 1)
 
 -- the cost of a power is a cost as a point's is
-abbrev pub EnvelopeIsCost : Type 0
-EnvelopeIsCost =
+abbrev pub EnvelopeIsWithinCostLimit : Type 0
+EnvelopeIsWithinCostLimit =
     (ps : List Point) (x : ℤ) → AreCostPoints ps → Spans ps x x → IsCost (envelope ps x)
 
 -- a power within 4 * 10^9, and a value within 10^18

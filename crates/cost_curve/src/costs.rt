@@ -8,12 +8,12 @@ ghost use Rattle.cost_curve.specs.CostCurve.{AreCostPoints};
 ghost use Rattle.cost_curve.specs.Legs.{IsLeg, IsNear, IsOn};
 
 use crate::edges::{Edge, Slope};
-use crate::walk::{first_envelope_point, next_edge};
+use crate::walk::{first_envelope_point, next_envelope_point};
 use uc_model::laws::{envelope_is_greatest, power_costs_are_within};
 use uc_model::units::Point;
 
 // The cost of a power between a point and the next one of the envelope.
-fn edge_cost(from: &Point, slope: Slope, x: i64) -> i64
+fn cost_between_envelope_points(from: &Point, slope: Slope, x: i64) -> i64
     requires limits { IsPoint from.now }
     requires power { IsPower x }
     requires above { from.now.at ≤ℤ x }
@@ -36,59 +36,59 @@ fn edge_cost(from: &Point, slope: Slope, x: i64) -> i64
 /// Where on the envelope a power is: a point of the envelope at or below it, and the way on from
 /// that point, if there is one.
 #[derive(Clone, Copy)]
-pub struct Leg {
+pub struct EnvelopePiece {
     from: usize,
     way: Option<Edge>,
 }
 
 // The leg that a power is on.
-fn leg_of_power(points: &[Point], x: i64) -> Leg
+fn envelope_piece_of_power(points: &[Point], x: i64) -> EnvelopePiece
     requires points { AreCostPoints points.now }
     requires within { Spans points.now x x }
-    ensures leg { IsLeg points.now result }
+    ensures piece { IsLeg points.now result }
     ensures on { IsOn points.now x result }
 {
     let mut from = first_envelope_point(points);
-    'walk: while let Some(edge) = next_edge(points, from) {
+    'walk: while let Some(edge) = next_envelope_point(points, from) {
         if x <= points[edge.index].at {
-            return Leg {
+            return EnvelopePiece {
                 from,
                 way: Some(edge),
             };
         }
         from = edge.index;
     }
-    Leg { from, way: None }
+    EnvelopePiece { from, way: None }
 }
 
 // Whether a power is on a leg.
-fn is_on_leg(points: &[Point], x: i64, leg: Leg) -> bool
-    requires { IsLeg points.now leg }
-    ensures { IsTrue result → IsOn points.now x leg }
+fn is_power_on_envelope_piece(points: &[Point], x: i64, piece: EnvelopePiece) -> bool
+    requires { IsLeg points.now piece }
+    ensures { IsTrue result → IsOn points.now x piece }
 {
-    if x < points[leg.from].at {
+    if x < points[piece.from].at {
         return false;
     }
-    match leg.way {
+    match piece.way {
         Some(edge) => x <= points[edge.index].at,
         None => true,
     }
 }
 
 // The cost of a power that is on a leg.
-fn cost_on_leg(points: &[Point], x: i64, leg: Leg) -> i64
+fn cost_on_envelope_piece(points: &[Point], x: i64, piece: EnvelopePiece) -> i64
     requires points { AreCostPoints points.now }
     requires within { Spans points.now x x }
-    requires leg { IsLeg points.now leg }
-    requires on { IsOn points.now x leg }
+    requires piece { IsLeg points.now piece }
+    requires on { IsOn points.now x piece }
     ensures value { result ≡ envelope points.now x }
     ensures limit { IsCost result }
 {
     envelope_is_greatest();
     power_costs_are_within();
-    match leg.way {
-        Some(edge) => edge_cost(&points[leg.from], edge.slope, x),
-        None => points[leg.from].cost,
+    match piece.way {
+        Some(edge) => cost_between_envelope_points(&points[piece.from], edge.slope, x),
+        None => points[piece.from].cost,
     }
 }
 
@@ -101,12 +101,16 @@ pub fn envelope_at(points: &[Point], x: i64) -> i64
     ensures value { result ≡ envelope points.now x }
     ensures limit { IsCost result }
 {
-    cost_on_leg(points, x, leg_of_power(points, x))
+    cost_on_envelope_piece(points, x, envelope_piece_of_power(points, x))
 }
 
 /// The same cost, found sooner where the power is on the leg in `near`, which is one of the same
 /// points: the one that the call before left there. Takes no memory.
-pub fn envelope_from_leg(points: &[Point], x: i64, near: &mut Option<Leg>) -> i64
+pub fn envelope_cost_with_cached_piece(
+    points: &[Point],
+    x: i64,
+    near: &mut Option<EnvelopePiece>,
+) -> i64
     requires points { AreCostPoints points.now }
     requires within { Spans points.now x x }
     requires near { IsNear points.now near.old }
@@ -114,12 +118,12 @@ pub fn envelope_from_leg(points: &[Point], x: i64, near: &mut Option<Leg>) -> i6
     ensures limit { IsCost result }
     ensures near { IsNear points.now near.new }
 {
-    if let Some(leg) = *near {
-        if is_on_leg(points, x, leg) {
-            return cost_on_leg(points, x, leg);
+    if let Some(piece) = *near {
+        if is_power_on_envelope_piece(points, x, piece) {
+            return cost_on_envelope_piece(points, x, piece);
         }
     }
-    let leg = leg_of_power(points, x);
-    *near = Some(leg);
-    cost_on_leg(points, x, leg)
+    let piece = envelope_piece_of_power(points, x);
+    *near = Some(piece);
+    cost_on_envelope_piece(points, x, piece)
 }

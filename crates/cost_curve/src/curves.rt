@@ -5,7 +5,7 @@ ghost use Rattle.cost_curve.specs.Building.{extended};
 ghost use Rattle.cost_curve.specs.CostCurve.{AreCostPoints, IsCostCurve, CanEvaluate};
 
 use crate::edges::Slope;
-use crate::walk::{first_envelope_point, next_edge};
+use crate::walk::{first_envelope_point, next_envelope_point};
 use uc_model::laws::{envelope_is_greatest, power_costs_are_within};
 use uc_model::units::{Block, Blocks, Curve, Point};
 
@@ -22,7 +22,7 @@ fn push_block(into: &mut Blocks, block: Block)
 }
 
 // Adds the blocks between two points of the envelope.
-fn push_edge(into: &mut Blocks, from: &Point, to: &Point, slope: Slope)
+fn push_blocks_between_points(into: &mut Blocks, from: &Point, to: &Point, slope: Slope)
     requires room { 2 ≤ into.old.spare }
     requires from_limits { IsPoint from.now }
     requires to_limits { IsPoint to.now }
@@ -64,8 +64,8 @@ pub fn curve_into(points: &[Point], into: &mut Curve)
     into.at = points[from].at;
     into.value = points[from].cost;
     into.blocks.clear();
-    'walk: while let Some(edge) = next_edge(points, from) {
-        push_edge(
+    'walk: while let Some(edge) = next_envelope_point(points, from) {
+        push_blocks_between_points(
             &mut into.blocks,
             &points[from],
             &points[edge.index],

@@ -1,7 +1,7 @@
 //! Laws over the definitions: each is the contract of a function that does nothing but call those
 //! of the model.
 ghost use Rattle.uc_model.specs.Laws.{EnvelopeEarnsAsPoints};
-ghost use Rattle.cost_curve.specs.CostCurve.{EnvelopeIsCost};
+ghost use Rattle.cost_curve.specs.CostCurve.{EnvelopeIsWithinCostLimit};
 
 use uc_model::laws::{envelope_is_greatest, power_costs_are_within};
 
@@ -14,8 +14,8 @@ pub fn envelope_earns_as_points()
 }
 
 /// The envelope is within the limit of a point's cost.
-pub fn envelope_is_cost()
-    ensures { EnvelopeIsCost }
+pub fn envelope_is_within_cost_limit()
+    ensures { EnvelopeIsWithinCostLimit }
 {
     power_costs_are_within();
 }

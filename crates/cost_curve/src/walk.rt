@@ -43,7 +43,12 @@ fn is_better_slope(new: Slope, found: Slope) -> bool
 }
 
 // The better of the way on that is found and the one to the point at an index.
-fn better_edge(points: &[Point], from: usize, found: Option<Edge>, index: usize) -> Option<Edge>
+fn better_next_envelope_point(
+    points: &[Point],
+    from: usize,
+    found: Option<Edge>,
+    index: usize,
+) -> Option<Edge>
     requires points { AreCostPoints points.now }
     requires later { from < index }
     requires within { index < length points.now }
@@ -69,14 +74,14 @@ fn better_edge(points: &[Point], from: usize, found: Option<Edge>, index: usize)
 }
 
 /// The way on from the point at an index, or None where no point has more power.
-pub fn next_edge(points: &[Point], from: usize) -> Option<Edge>
+pub fn next_envelope_point(points: &[Point], from: usize) -> Option<Edge>
     requires points { AreCostPoints points.now }
     requires within { from < length points.now }
     ensures { IsWayOn points.now from (length points.now) result }
 {
     let mut found = None;
     for index in from + 1..points.len() {
-        found = better_edge(points, from, found, index);
+        found = better_next_envelope_point(points, from, found, index);
     }
     found
 }

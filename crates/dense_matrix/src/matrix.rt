@@ -51,7 +51,7 @@ impl Model for Matrix {
 }
 
 // Adds to a row, from its entry on the diagonal on, the products of four columns from that row on.
-fn add_products(row: &mut [f64], a: &[f64], b: &[f64], c: &[f64], d: &[f64])
+fn add_products_to_row(row: &mut [f64], a: &[f64], b: &[f64], c: &[f64], d: &[f64])
     requires some { 0 < length row.old }
     requires a { length a.now ≡ length row.old }
     requires b { length b.now ≡ length row.old }
@@ -79,7 +79,7 @@ fn add_columns(entries: &mut [f64], size: usize, columns: &Table)
     let d = columns.row(3);
     for row in 0..size {
         let start = row * size;
-        add_products(
+        add_products_to_row(
             &mut entries[start + row..start + size],
             &a[row..],
             &b[row..],
@@ -100,7 +100,7 @@ fn divide_row(row: &mut [f64], by: f64, copy: &mut [f64])
     }
 }
 
-fn root_of(pivot: f64) -> f64 {
+fn square_root_of_pivot(pivot: f64) -> f64 {
     if pivot > LEAST_PIVOT {
         pivot.sqrt()
     } else {
@@ -134,9 +134,9 @@ impl Matrix {
         self.waiting = 0;
     }
 
-    /// Adds the product of a column with itself: so much times what one list is above another. `end_columns` has to
-    /// follow.
-    pub fn add_column(&mut self, factor: f64, list: &[f64], base: &[f64])
+    /// Adds the product of a column with itself: so much times what one list is above another.
+    /// `add_remaining_outer_products` has to follow.
+    pub fn add_outer_product_of_column(&mut self, factor: f64, list: &[f64], base: &[f64])
         requires list { length list.now ≡ self.old }
         requires base { length base.now ≡ self.old }
         ensures { self.new ≡ self.old }
@@ -144,24 +144,24 @@ impl Matrix {
         let index = self.waiting;
         self.columns.set_difference(index, factor, list, base);
         if index + 1 == GROUP {
-            self.add_waiting();
+            self.add_group_of_outer_products();
         } else {
             self.waiting = index + 1;
         }
     }
 
     /// Adds the products of the columns that are left.
-    pub fn end_columns(&mut self)
+    pub fn add_remaining_outer_products(&mut self)
         ensures { self.new ≡ self.old }
     {
         if self.waiting == 0 {
             return;
         }
         self.columns.clear_from(self.waiting);
-        self.add_waiting();
+        self.add_group_of_outer_products();
     }
 
-    fn add_waiting(&mut self)
+    fn add_group_of_outer_products(&mut self)
         ensures { self.new ≡ self.old }
     {
         self.waiting = 0;
@@ -182,20 +182,20 @@ impl Matrix {
         ensures { self.new ≡ self.old }
     {
         for pivot in 0..self.size {
-            self.end_row(pivot);
+            self.divide_pivot_row_by_root(pivot);
             for row in pivot + 1..self.size {
-                self.take_pivot_row(row);
+                self.subtract_pivot_row_multiple(row);
             }
         }
     }
 
     // The row of a pivot becomes one of the root.
-    fn end_row(&mut self, pivot: usize)
+    fn divide_pivot_row_by_root(&mut self, pivot: usize)
         requires { pivot < self.old }
         ensures { self.new ≡ self.old }
     {
         let start = pivot * self.size;
-        let root = root_of(self.entries[start + pivot]);
+        let root = square_root_of_pivot(self.entries[start + pivot]);
         divide_row(
             &mut self.entries[start + pivot..start + self.size],
             root,
@@ -205,7 +205,7 @@ impl Matrix {
     }
 
     // Takes the product of the pivot's row with itself off a later row.
-    fn take_pivot_row(&mut self, row: usize)
+    fn subtract_pivot_row_multiple(&mut self, row: usize)
         requires { row < self.old }
         ensures { self.new ≡ self.old }
     {
@@ -221,7 +221,7 @@ impl Matrix {
     }
 
     // The row of a root from its entry on the diagonal on.
-    fn root_row(&self, row: usize) -> &[f64]
+    fn row_of_cholesky_factor(&self, row: usize) -> &[f64]
         requires { row < self.now }
         ensures { length result.now + row ≡ self.now }
     {
@@ -234,14 +234,14 @@ impl Matrix {
         requires { length right.old ≡ self.now }
     {
         for row in 0..right.len() {
-            let of_root = self.root_row(row);
+            let of_root = self.row_of_cholesky_factor(row);
             let unknown = right[row] / of_root[0];
             right[row] = unknown;
             add_multiple(&mut right[row + 1..], -unknown, &of_root[1..]);
         }
         for done in 0..right.len() {
             let row = right.len() - 1 - done;
-            let of_root = self.root_row(row);
+            let of_root = self.row_of_cholesky_factor(row);
             let rest = right[row] - dot_product(&of_root[1..], &right[row + 1..]);
             right[row] = rest / of_root[0];
         }

@@ -16,7 +16,7 @@ use crate::choice::{PowerChoice, earnings_at_gain, write_choice};
 use uc_model::units::{Answered, Bid, Block, Prices};
 
 // The choice with a block more where it is worth more than it costs.
-fn choice_with_block(so_far: PowerChoice, block: &Block, price: i64) -> PowerChoice
+fn bid_choice_with_block_added(so_far: PowerChoice, block: &Block, price: i64) -> PowerChoice
     requires block { IsBlock block.now }
     requires price { IsFrom (neg_ℤ price_limit) price_limit price }
     requires power { IsPower (pos so_far.power +ℤ added_power price block.now) }
@@ -35,7 +35,7 @@ fn choice_with_block(so_far: PowerChoice, block: &Block, price: i64) -> PowerCho
 }
 
 // All blocks whose price is above the energy price.
-fn choice_of_blocks(blocks: &[Block], price: i64) -> PowerChoice
+fn bid_choice_of_worthwhile_blocks(blocks: &[Block], price: i64) -> PowerChoice
     requires blocks { IsBlockList blocks.now }
     requires price { IsFrom (neg_ℤ price_limit) price_limit price }
     ensures { IsLeastChoice (IsWithinBlocks blocks.now) (bought_at blocks.now price) result.power
@@ -46,7 +46,7 @@ fn choice_of_blocks(blocks: &[Block], price: i64) -> PowerChoice
         earned: 0,
     };
     for block in blocks {
-        choice = choice_with_block(choice, block, price);
+        choice = bid_choice_with_block_added(choice, block, price);
     }
     choice
 }
@@ -60,7 +60,7 @@ fn bid_choice_in_period(bid: &Bid, prices: &Prices, index: usize) -> PowerChoice
         result.power result.earned }
 {
     let blocks = bid.blocks.get(index).as_slice();
-    choice_of_blocks(blocks, *prices.energy.get(index))
+    bid_choice_of_worthwhile_blocks(blocks, *prices.energy.get(index))
 }
 
 /// Leaves in `into` the least best schedule of a bid at the prices, and what it earns: in each

@@ -28,7 +28,7 @@ pub fn earnings_at_gain(gain: i64, power: i64) -> i64
 }
 
 /// A power at a price for each kilowatt.
-pub fn choice_of_power(price: i64, power: i64) -> PowerChoice
+pub fn power_choice_at_price(price: i64, power: i64) -> PowerChoice
     requires price { IsFrom (neg_ℤ price_limit) price_limit price }
     requires power { IsPower power }
     ensures power { pos result.power ≡ power }

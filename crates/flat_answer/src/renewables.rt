@@ -9,11 +9,11 @@ ghost use Rattle.plain_lists.specs.Sums.{int_at};
 ghost use Rattle.uc_model.specs.Ties.{IsLeast};
 ghost use Rattle.flat_answer.specs.Choices.{IsLeastChoice, IsBetween, sold_at};
 
-use crate::choice::{PowerChoice, choice_of_power, write_choice};
+use crate::choice::{PowerChoice, power_choice_at_price, write_choice};
 use uc_model::units::{Answered, Prices, Renewable};
 
 // The greatest power where it is paid for, and the least otherwise.
-fn choice_within_range(least: i64, most: i64, price: i64) -> PowerChoice
+fn renewable_choice_at_price(least: i64, most: i64, price: i64) -> PowerChoice
     requires least { IsPower least }
     requires most { IsPower most }
     requires range { least ≤ℤ most }
@@ -21,9 +21,9 @@ fn choice_within_range(least: i64, most: i64, price: i64) -> PowerChoice
     ensures { IsLeastChoice (IsBetween least most) (sold_at price) result.power result.earned }
 {
     if price > 0 {
-        return choice_of_power(price, most);
+        return power_choice_at_price(price, most);
     }
-    choice_of_power(price, least)
+    power_choice_at_price(price, least)
 }
 
 // The choice of a period, whose index counts from 0.
@@ -37,7 +37,7 @@ fn renewable_choice_in_period(flat: &Renewable, prices: &Prices, index: usize) -
 {
     let least = *flat.least.get(index);
     let most = *flat.most.get(index);
-    choice_within_range(least, most, *prices.energy.get(index))
+    renewable_choice_at_price(least, most, *prices.energy.get(index))
 }
 
 /// Leaves in `into` the least best schedule of a renewable unit at the prices, and what it earns:

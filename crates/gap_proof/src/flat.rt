@@ -17,7 +17,7 @@ use uc_model::cases::Case;
 use uc_model::units::{Block, Renewable};
 
 // What a renewable unit earns at best at an index.
-fn renewable_earnings(flat: &Renewable, index: usize, price: i64) -> i64
+fn best_earnings_of_renewable(flat: &Renewable, index: usize, price: i64) -> i64
     requires index { index < length (renewable_of flat.now).least }
     requires price { IsFrom (neg_ℤ price_limit) price_limit price }
     ensures value { result ≡ best_sold (renewable_of flat.now) index price }
@@ -29,7 +29,7 @@ fn renewable_earnings(flat: &Renewable, index: usize, price: i64) -> i64
 }
 
 // What all renewable units earn at best at an index.
-fn renewables_at(case: &Case, index: usize, price: i64) -> i128
+fn best_earnings_of_all_renewables(case: &Case, index: usize, price: i64) -> i128
     requires index { index < (market_of case.now).periods }
     requires price { IsFrom (neg_ℤ price_limit) price_limit price }
     ensures value { result ≡ total (map (λ (n : NamedRenewableUnit). best_sold n.unit index price)
@@ -38,13 +38,13 @@ fn renewables_at(case: &Case, index: usize, price: i64) -> i128
 {
     let mut sum: i128 = 0;
     for number in 0..case.flat.len() {
-        sum += i128::from(renewable_earnings(&case.flat.get(number).flat, index, price));
+        sum += i128::from(best_earnings_of_renewable(&case.flat.get(number).flat, index, price));
     }
     sum
 }
 
 // What a block earns its buyer at best.
-fn block_earnings(block: &Block, price: i64) -> i64
+fn best_earnings_of_block(block: &Block, price: i64) -> i64
     requires block { IsBlock block.now }
     requires price { IsFrom (neg_ℤ price_limit) price_limit price }
     ensures value { result
@@ -55,7 +55,7 @@ fn block_earnings(block: &Block, price: i64) -> i64
 }
 
 // What blocks earn their buyer at best.
-fn bid_earnings(blocks: &[Block], price: i64) -> i64
+fn best_earnings_of_blocks(blocks: &[Block], price: i64) -> i64
     requires blocks { IsBlockList blocks.now }
     requires price { IsFrom (neg_ℤ price_limit) price_limit price }
     ensures value { result ≡ best_bought blocks.now price }
@@ -63,13 +63,13 @@ fn bid_earnings(blocks: &[Block], price: i64) -> i64
 {
     let mut sum = 0;
     for block in blocks {
-        sum += block_earnings(block, price);
+        sum += best_earnings_of_block(block, price);
     }
     sum
 }
 
 // What all bids earn at best at an index.
-fn bids_at(case: &Case, index: usize, price: i64) -> i128
+fn best_earnings_of_all_bids(case: &Case, index: usize, price: i64) -> i128
     requires index { index < (market_of case.now).periods }
     requires price { IsFrom (neg_ℤ price_limit) price_limit price }
     ensures value { result ≡ total (map (λ (n : NamedBidUnit). best_bought (blocks_at n.unit index)
@@ -79,17 +79,18 @@ fn bids_at(case: &Case, index: usize, price: i64) -> i128
     let mut sum: i128 = 0;
     for number in 0..case.bids.len() {
         let blocks = case.bids.get(number).bid.blocks.get(index).as_slice();
-        sum += i128::from(bid_earnings(blocks, price));
+        sum += i128::from(best_earnings_of_blocks(blocks, price));
     }
     sum
 }
 
 /// What all renewable units and bids earn at best at an index, in money.
-pub fn flat_at(case: &Case, index: usize, price: i64) -> i128
+pub fn best_earnings_of_renewables_and_bids(case: &Case, index: usize, price: i64) -> i128
     requires index { index < (market_of case.now).periods }
     requires price { IsFrom (neg_ℤ price_limit) price_limit price }
     ensures value { result ≡ flat_of (market_of case.now) index price }
     ensures limit { IsFlat result }
 {
-    renewables_at(case, index, price) + bids_at(case, index, price)
+    best_earnings_of_all_renewables(case, index, price)
+        + best_earnings_of_all_bids(case, index, price)
 }

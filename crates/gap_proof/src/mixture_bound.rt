@@ -13,11 +13,11 @@ ghost use Rattle.gap_proof.specs.MixtureBound.{mixture_bound};
 ghost use Rattle.gap_proof.specs.PlaneSums.{IsUpTo};
 ghost use Rattle.gap_proof.specs.MixtureSizes.{IsBound};
 
-use crate::mixture_sums::{cost_of_mixture, lacks_at};
+use crate::mixture_sums::{cost_of_mixture, shortfalls_of_mixture_at};
 use crate::mixtures::Mixture;
 use crate::plane_sums::{high_end_of_price, low_end_of_price};
 use crate::wide::floor_quotient;
-use crate::worst::{Interval, Lack, most_energy_term, most_reserve_term};
+use crate::worst::{Interval, Lack, greatest_energy_bound_term, greatest_reserve_bound_term};
 use uc_model::cases::Case;
 use uc_model::units::Prices;
 
@@ -39,7 +39,13 @@ fn price_interval(case: &Case, centre: &Prices, radius: i64, index: usize) -> In
 }
 
 // The most that the prices of the period at an index add.
-fn most_at(case: &Case, mixture: &Mixture, centre: &Prices, radius: i64, index: usize) -> i128
+fn greatest_bound_term_of_period(
+    case: &Case,
+    mixture: &Mixture,
+    centre: &Prices,
+    radius: i64,
+    index: usize,
+) -> i128
     requires shape { HasMixtureShape (market_of case.now) (mixture_of mixture.now) }
     requires horizon { length (prices_of centre.now).energy ≡ (market_of case.now).periods }
     requires radius { IsRadius radius }
@@ -50,7 +56,7 @@ fn most_at(case: &Case, mixture: &Mixture, centre: &Prices, radius: i64, index: 
         radius index }
     ensures limit { IsUpTo 500000000000000000000000000000000 result }
 {
-    let lacks = lacks_at(case, mixture, index);
+    let lacks = shortfalls_of_mixture_at(case, mixture, index);
     let lack = Lack {
         index,
         weight: mixture.weight,
@@ -58,7 +64,8 @@ fn most_at(case: &Case, mixture: &Mixture, centre: &Prices, radius: i64, index: 
     };
     let energy = price_interval(case, centre, radius, index);
     let reserve = price_interval(case, centre, radius, case.periods as usize + index);
-    most_energy_term(case, lack, energy) + most_reserve_term(lacks.reserve, reserve)
+    greatest_energy_bound_term(case, lack, energy)
+        + greatest_reserve_bound_term(lacks.reserve, reserve)
 }
 
 /// The bound on the dual value of all prices in a box, by a mixture: no whole prices within the
@@ -77,7 +84,7 @@ pub fn bound_of_mixture(case: &Case, mixture: &Mixture, centre: &Prices, radius:
 {
     let mut sum = cost_of_mixture(case, mixture);
     for index in 0..case.periods as usize {
-        sum += most_at(case, mixture, centre, radius, index);
+        sum += greatest_bound_term_of_period(case, mixture, centre, radius, index);
     }
     floor_quotient(sum, mixture.weight)
 }

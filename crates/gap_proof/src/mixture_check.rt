@@ -22,7 +22,12 @@ pub struct EntryFault {
 }
 
 // The first rule that an entry breaks.
-fn check_entry(unit: &Unit, entry: &Entry, number: u32, position: u64) -> Result<(), EntryFault>
+fn check_schedule_of_mixture(
+    unit: &Unit,
+    entry: &Entry,
+    number: u32,
+    position: u64,
+) -> Result<(), EntryFault>
     requires over { IsOver (length (thermal_of unit.now).window) (entry_of entry.now).schedule }
     ensures { FindsEntry (entry_refusals (length (thermal_of unit.now).window) number
         (thermal_of unit.now) position (entry_of entry.now ∷ [])) result }
@@ -37,27 +42,31 @@ fn check_entry(unit: &Unit, entry: &Entry, number: u32, position: u64) -> Result
 }
 
 // The first rule that an entry of a unit breaks.
-fn check_entries(unit: &Unit, entries: &[Entry], number: u32) -> Result<(), EntryFault>
+fn check_unit_schedules_of_mixture(
+    unit: &Unit,
+    entries: &[Entry],
+    number: u32,
+) -> Result<(), EntryFault>
     requires over { All (λ (e : WeighedSchedule).
         IsOver (length (thermal_of unit.now).window) e.schedule) (map entry_of entries.now) }
     ensures { FindsEntry (entry_refusals (length (thermal_of unit.now).window) number
         (thermal_of unit.now) 1 (map entry_of entries.now)) result }
 {
     for (index, entry) in entries.iter().enumerate() {
-        check_entry(unit, entry, number, index as u64 + 1)?;
+        check_schedule_of_mixture(unit, entry, number, index as u64 + 1)?;
     }
     Ok(())
 }
 
 // The first rule that an entry of any unit breaks.
-fn check_all(case: &Case, mixture: &Mixture) -> Result<(), EntryFault>
+fn check_all_schedules_of_mixture(case: &Case, mixture: &Mixture) -> Result<(), EntryFault>
     requires { HasMixtureShape (market_of case.now) (mixture_of mixture.now) }
     ensures { FindsEntry (mixture_refusals (market_of case.now) (mixture_of mixture.now)) result }
 {
     for index in 0..case.thermal.len() {
         let unit = &case.thermal.get(index).unit;
         let entries = mixture.thermal.get(index).as_slice();
-        check_entries(unit, entries, index as u32 + 1)?;
+        check_unit_schedules_of_mixture(unit, entries, index as u32 + 1)?;
     }
     Ok(())
 }
@@ -72,5 +81,5 @@ pub fn check_mixture(case: &Case, mixture: &Mixture) -> Result<(), EntryFault>
     ensures finds { FindsEntry (mixture_refusals (market_of case.now) (mixture_of mixture.now))
         result }
 {
-    check_all(case, mixture)
+    check_all_schedules_of_mixture(case, mixture)
 }

@@ -32,7 +32,7 @@ pub struct Weighed {
 }
 
 // What is given with one more entry.
-fn given_with_entry(given: Weighed, entry: &Entry, index: usize) -> Weighed
+fn weighted_output_with_entry(given: Weighed, entry: &Entry, index: usize) -> Weighed
     requires index { index < length (entry_of entry.now).schedule.on }
     requires weight { IsFrom (pos 0) most_whole entry.now.weight }
     requires power { IsGivenByOne given.power }
@@ -54,7 +54,7 @@ fn given_with_entry(given: Weighed, entry: &Entry, index: usize) -> Weighed
 }
 
 // What the entries of one unit give at an index.
-fn given_by_entries(entries: &[Entry], index: usize) -> Weighed
+fn weighted_output_of_entries(entries: &[Entry], index: usize) -> Weighed
     requires weights { AreUnitWeights (map entry_of entries.now) }
     requires index { AreBehind index (map entry_of entries.now) }
     ensures power { result.power
@@ -69,13 +69,13 @@ fn given_by_entries(entries: &[Entry], index: usize) -> Weighed
         reserve: 0,
     };
     for entry in entries {
-        given = given_with_entry(given, entry, index);
+        given = weighted_output_with_entry(given, entry, index);
     }
     given
 }
 
 // What the mixture gives at an index.
-fn given_by_mixture(case: &Case, mixture: &Mixture, index: usize) -> Weighed
+fn weighted_output_of_mixture(case: &Case, mixture: &Mixture, index: usize) -> Weighed
     requires shape { HasMixtureShape (market_of case.now) (mixture_of mixture.now) }
     requires index { index < (market_of case.now).periods }
     ensures power { result.power ≡ weighed_over (λ u s. supply_in u s (suc index))
@@ -90,7 +90,7 @@ fn given_by_mixture(case: &Case, mixture: &Mixture, index: usize) -> Weighed
         reserve: 0,
     };
     for unit in 0..case.thermal.len() {
-        let more = given_by_entries(mixture.thermal.get(unit).as_slice(), index);
+        let more = weighted_output_of_entries(mixture.thermal.get(unit).as_slice(), index);
         given = Weighed {
             power: given.power + more.power,
             reserve: given.reserve + more.reserve,
@@ -100,7 +100,7 @@ fn given_by_mixture(case: &Case, mixture: &Mixture, index: usize) -> Weighed
 }
 
 // What is lacking of a power that is required so many times.
-fn weighted_lack(weight: i64, required: i64, given: i128) -> i128
+fn weighted_shortfall(weight: i64, required: i64, given: i128) -> i128
     requires weight { IsFrom (pos 0) most_whole weight }
     requires required { IsPower required }
     requires given { IsGiven given }
@@ -112,7 +112,7 @@ fn weighted_lack(weight: i64, required: i64, given: i128) -> i128
 
 /// What the mixture lacks of demand and of the required reserve at an index, as often as its weight
 /// says: below 0 where it gives more.
-pub fn lacks_at(case: &Case, mixture: &Mixture, index: usize) -> Weighed
+pub fn shortfalls_of_mixture_at(case: &Case, mixture: &Mixture, index: usize) -> Weighed
     requires shape { HasMixtureShape (market_of case.now) (mixture_of mixture.now) }
     requires index { index < (market_of case.now).periods }
     ensures power { result.power ≡ lack (market_of case.now) (mixture_of mixture.now) index }
@@ -120,10 +120,10 @@ pub fn lacks_at(case: &Case, mixture: &Mixture, index: usize) -> Weighed
     ensures power_limit { IsLack result.power }
     ensures reserve_limit { IsLack result.reserve }
 {
-    let given = given_by_mixture(case, mixture, index);
+    let given = weighted_output_of_mixture(case, mixture, index);
     Weighed {
-        power: weighted_lack(mixture.weight, *case.demand.get(index), given.power),
-        reserve: weighted_lack(mixture.weight, *case.reserves.get(index), given.reserve),
+        power: weighted_shortfall(mixture.weight, *case.demand.get(index), given.power),
+        reserve: weighted_shortfall(mixture.weight, *case.reserves.get(index), given.reserve),
     }
 }
 
@@ -139,7 +139,7 @@ fn cost_of_schedule(unit: &Unit, response: &Response) -> i64
 }
 
 // What the entries of one unit cost.
-fn cost_of_entries(unit: &Unit, entries: &[Entry]) -> i128
+fn weighted_cost_of_entries(unit: &Unit, entries: &[Entry]) -> i128
     requires horizon { length (thermal_of unit.now).window ≤ MOST_PERIODS }
     requires weights { AreUnitWeights (map entry_of entries.now) }
     requires feasible { All (λ (e : WeighedSchedule). IsThermalFeasible (thermal_of unit.now)
@@ -165,7 +165,7 @@ pub fn cost_of_mixture(case: &Case, mixture: &Mixture) -> i128
     let mut sum: i128 = 0;
     for index in 0..case.thermal.len() {
         let unit = &case.thermal.get(index).unit;
-        sum += cost_of_entries(unit, mixture.thermal.get(index).as_slice());
+        sum += weighted_cost_of_entries(unit, mixture.thermal.get(index).as_slice());
     }
     sum
 }

@@ -15,7 +15,7 @@ ghost use Rattle.gap_proof.specs.PlaneSums.{IsHeightStep, IsHeightSum, IsSlopeSu
 ghost use Rattle.gap_proof.specs.PlaneSums.{IsRiseSum};
 ghost use Rattle.gap_proof.specs.PlaneSums.{least_bound, most_bound};
 
-use crate::planes::{add_slopes, height_of_row, price_at_place};
+use crate::planes::{add_weighted_slopes_of_row, plane_height_at_zero_prices, price_at_place};
 use crate::wide::floor_quotient;
 use plain_lists::lists::Amounts;
 use uc_model::cases::{Case, Row};
@@ -43,7 +43,7 @@ pub fn clear_slopes(slopes: &mut Amounts)
 }
 
 // So many times a height.
-fn weighted_height(weight: i64, height: i128) -> i128
+fn weighted_plane_height(weight: i64, height: i128) -> i128
     requires weight { IsWeight weight }
     requires height { IsHeight height }
     ensures value { result ≡ weight *ℤ height }
@@ -53,7 +53,13 @@ fn weighted_height(weight: i64, height: i128) -> i128
 }
 
 /// The sums with one more row of that weight; its slopes are added to `slopes`.
-pub fn add_row(case: &Case, row: &Row, weight: i64, sums: Sums, slopes: &mut Amounts) -> Sums
+pub fn add_weighted_plane_of_row(
+    case: &Case,
+    row: &Row,
+    weight: i64,
+    sums: Sums,
+    slopes: &mut Amounts,
+) -> Sums
     requires row { IsRowWithin (market_of case.now) (proposal_of row.now) }
     requires weight { IsWeight weight }
     requires heights { IsHeightSum sums.height }
@@ -70,9 +76,9 @@ pub fn add_row(case: &Case, row: &Row, weight: i64, sums: Sums, slopes: &mut Amo
         +ℤ (weight *ℤ slope_at (market_of case.now) (proposal_of row.now) j) }
     ensures spare { slopes.new.spare ≡ slopes.old.spare }
 {
-    add_slopes(case, row, weight, slopes);
+    add_weighted_slopes_of_row(case, row, weight, slopes);
     Sums {
-        height: sums.height + weighted_height(weight, height_of_row(case, row)),
+        height: sums.height + weighted_plane_height(weight, plane_height_at_zero_prices(case, row)),
         weight: sums.weight + weight,
     }
 }
@@ -112,7 +118,7 @@ pub fn high_end_of_price(case: &Case, centre: &Prices, radius: i64, index: usize
 }
 
 // What a sum of slopes adds at a price.
-fn rise_of_slopes(slope: i128, price: i64) -> i128
+fn slope_sum_times_price(slope: i128, price: i64) -> i128
     requires slope { IsSlopeSum slope }
     requires price { IsFrom (neg_ℤ price_limit) price_limit price }
     ensures value { result ≡ slope *ℤ price }
@@ -122,18 +128,18 @@ fn rise_of_slopes(slope: i128, price: i64) -> i128
 }
 
 // The most that a sum of slopes adds at a price of an interval, which is at one of its ends.
-fn most_between(slope: i128, low: i64, high: i64) -> i128
+fn greatest_slope_term_in_interval(slope: i128, low: i64, high: i64) -> i128
     requires slope { IsSlopeSum slope }
     requires low { IsFrom (neg_ℤ price_limit) price_limit low }
     requires high { IsFrom (neg_ℤ price_limit) price_limit high }
     ensures value { result ≡ int_max (slope *ℤ low) (slope *ℤ high) }
     ensures bound { IsRise result }
 {
-    rise_of_slopes(slope, low).max(rise_of_slopes(slope, high))
+    slope_sum_times_price(slope, low).max(slope_sum_times_price(slope, high))
 }
 
 // The most that sums of slopes add at prices of the box.
-fn most_of_slopes(case: &Case, centre: &Prices, radius: i64, slopes: &Amounts) -> i128
+fn sum_of_greatest_slope_terms(case: &Case, centre: &Prices, radius: i64, slopes: &Amounts) -> i128
     requires horizon { length (prices_of centre.now).energy ≡ (market_of case.now).periods }
     requires radius { IsRadius radius }
     requires length { length slopes.now.items ≡ 2 * (market_of case.now).periods }
@@ -146,13 +152,13 @@ fn most_of_slopes(case: &Case, centre: &Prices, radius: i64, slopes: &Amounts) -
     for index in 0..2 * case.periods as usize {
         let low = low_end_of_price(case, centre, radius, index);
         let high = high_end_of_price(case, centre, radius, index);
-        total += most_between(*slopes.get(index), low, high);
+        total += greatest_slope_term_in_interval(*slopes.get(index), low, high);
     }
     total
 }
 
 /// The greatest height over the box of the mean of the planes that are summed.
-pub fn greatest_mean_height(
+pub fn greatest_mean_plane_height(
     case: &Case,
     centre: &Prices,
     radius: i64,
@@ -172,7 +178,7 @@ pub fn greatest_mean_height(
     ensures limits { IsFrom least_bound most_bound result }
 {
     floor_quotient(
-        sums.height + most_of_slopes(case, centre, radius, slopes),
+        sums.height + sum_of_greatest_slope_terms(case, centre, radius, slopes),
         sums.weight,
     )
 }

@@ -12,7 +12,7 @@ ghost use Rattle.gap_proof.specs.PlaneSums.{IsRowWithin, IsUpTo, IsWeight, IsHei
 
 use crate::wide::wide_product;
 use plain_lists::lists::Amounts;
-use price_space::lack_of_total;
+use price_space::shortfall_of_total;
 use uc_model::cases::{Case, Row};
 use uc_model::units::Prices;
 
@@ -25,10 +25,10 @@ fn slope_of_row(case: &Case, row: &Row, index: usize) -> i64
 {
     let periods = case.periods as usize;
     if index < periods {
-        return lack_of_total(*case.demand.get(index), *row.supply.get(index));
+        return shortfall_of_total(*case.demand.get(index), *row.supply.get(index));
     }
     let k = index - periods;
-    lack_of_total(*case.reserves.get(k), *row.reserve.get(k))
+    shortfall_of_total(*case.reserves.get(k), *row.reserve.get(k))
 }
 
 /// The price at an index.
@@ -46,7 +46,7 @@ pub fn price_at_place(case: &Case, prices: &Prices, index: usize) -> i64
 }
 
 // What a slope adds at a price.
-fn rise_of_slope(slope: i64, price: i64) -> i128
+fn slope_times_price(slope: i64, price: i64) -> i128
     requires slope { IsEntry slope }
     requires price { IsFrom (neg_ℤ price_limit) price_limit price }
     ensures value { result ≡ slope *ℤ price }
@@ -56,14 +56,14 @@ fn rise_of_slope(slope: i64, price: i64) -> i128
 }
 
 /// Where the row's plane stands at prices of 0.
-pub fn height_of_row(case: &Case, row: &Row) -> i128
+pub fn plane_height_at_zero_prices(case: &Case, row: &Row) -> i128
     requires { IsRowWithin (market_of case.now) (proposal_of row.now) }
     ensures value { result ≡ height_of (market_of case.now) (proposal_of row.now) }
     ensures bound { IsHeight result }
 {
     let mut at_prices: i128 = 0;
     for index in 0..2 * case.periods as usize {
-        at_prices += rise_of_slope(
+        at_prices += slope_times_price(
             slope_of_row(case, row, index),
             price_at_place(case, &row.prices, index),
         );
@@ -72,7 +72,7 @@ pub fn height_of_row(case: &Case, row: &Row) -> i128
 }
 
 // A sum of slopes with one more in it, so many times.
-fn slope_sum_with(sum: i128, weight: i64, slope: i64) -> i128
+fn slope_sum_with_row(sum: i128, weight: i64, slope: i64) -> i128
     requires sum { IsSlopeSum sum }
     requires weight { IsWeight weight }
     requires slope { IsEntry slope }
@@ -82,7 +82,7 @@ fn slope_sum_with(sum: i128, weight: i64, slope: i64) -> i128
 }
 
 /// Adds the row's slopes to the sums at each price index, so many times.
-pub fn add_slopes(case: &Case, row: &Row, weight: i64, slopes: &mut Amounts)
+pub fn add_weighted_slopes_of_row(case: &Case, row: &Row, weight: i64, slopes: &mut Amounts)
     requires row { IsRowOver (market_of case.now) (proposal_of row.now) }
     requires weight { IsWeight weight }
     requires length { length slopes.old.items ≡ 2 * (market_of case.now).periods }
@@ -96,7 +96,7 @@ pub fn add_slopes(case: &Case, row: &Row, weight: i64, slopes: &mut Amounts)
     for index in 0..2 * case.periods as usize {
         slopes.set(
             index,
-            slope_sum_with(*slopes.get(index), weight, slope_of_row(case, row, index)),
+            slope_sum_with_row(*slopes.get(index), weight, slope_of_row(case, row, index)),
         );
     }
 }

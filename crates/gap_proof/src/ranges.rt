@@ -9,7 +9,9 @@ ghost use Rattle.gap_proof.specs.Candidates.{prices_of_row, range_bound, IsFirst
 ghost use Rattle.gap_proof.specs.PlaneSums.{IsRowWithin, IsRadius, AreSums};
 ghost use Rattle.gap_proof.specs.PlaneSums.{least_bound, most_bound};
 
-use crate::plane_sums::{Sums, add_row, clear_slopes, greatest_mean_height};
+use crate::plane_sums::{
+    Sums, add_weighted_plane_of_row, clear_slopes, greatest_mean_plane_height,
+};
 use crate::rows_bound::row_at;
 use plain_lists::lists::Amounts;
 use uc_model::cases::{Case, Row};
@@ -28,7 +30,7 @@ pub struct Certified {
 }
 
 // The sums of one row, once.
-fn sums_of(case: &Case, row: &Row, slopes: &mut Amounts) -> Sums
+fn plane_sums_of_one_row(case: &Case, row: &Row, slopes: &mut Amounts) -> Sums
     requires row { IsRowWithin (market_of case.now) (proposal_of row.now) }
     requires length { length slopes.old.items ≡ 2 * (market_of case.now).periods }
     ensures sums { AreSums (market_of case.now) (pos 1 ∷ []) (proposal_of row.now ∷ [])
@@ -40,7 +42,7 @@ fn sums_of(case: &Case, row: &Row, slopes: &mut Amounts) -> Sums
         height: 0,
         weight: 0,
     };
-    add_row(case, row, 1, none, slopes)
+    add_weighted_plane_of_row(case, row, 1, none, slopes)
 }
 
 // The bound round a row by that row alone.
@@ -66,8 +68,8 @@ fn bound_by_one_row(
     ensures spare { work.new.spare ≡ work.old.spare }
 {
     let row = row_at(rows, number as usize - 1);
-    let sums = sums_of(case, row, work);
-    let bound = greatest_mean_height(case, &row.prices, radius, sums, work);
+    let sums = plane_sums_of_one_row(case, row, work);
+    let bound = greatest_mean_plane_height(case, &row.prices, radius, sums, work);
     Certified {
         first: number,
         last: number,
@@ -76,7 +78,7 @@ fn bound_by_one_row(
 }
 
 // The better of a bound and that by the rows from an earlier one on, which is taken in a tie.
-fn better_range(best: Certified, first: u32, bound: i128) -> Certified
+fn range_of_lesser_bound(best: Certified, first: u32, bound: i128) -> Certified
     ensures last { result.last ≡ best.last }
     ensures taken { bound ≤ℤ best.bound → (result.first ≡ first) × (result.bound ≡ bound) }
     ensures kept { best.bound <ℤ bound → (result.first ≡ best.first) × (result.bound ≡ best.bound) }
@@ -122,16 +124,16 @@ fn best_suffix_bound(
     ensures spare { work.new.spare ≡ work.old.spare }
 {
     let count = rows.len();
-    let mut sums = sums_of(case, row_at(rows, count - 1), work);
+    let mut sums = plane_sums_of_one_row(case, row_at(rows, count - 1), work);
     let mut best = Certified {
         first: count as u32,
         last: count as u32,
-        bound: greatest_mean_height(case, centre, radius, sums, work),
+        bound: greatest_mean_plane_height(case, centre, radius, sums, work),
     };
     for index in (0..count - 1).rev() {
-        sums = add_row(case, row_at(rows, index), 1, sums, work);
-        let bound = greatest_mean_height(case, centre, radius, sums, work);
-        best = better_range(best, index as u32 + 1, bound);
+        sums = add_weighted_plane_of_row(case, row_at(rows, index), 1, sums, work);
+        let bound = greatest_mean_plane_height(case, centre, radius, sums, work);
+        best = range_of_lesser_bound(best, index as u32 + 1, bound);
     }
     best
 }

@@ -7,7 +7,9 @@ ghost use Rattle.gap_proof.specs.Candidates.{prices_of_row};
 ghost use Rattle.gap_proof.specs.CertifiedBound.{certified_bound, AreWeights};
 ghost use Rattle.gap_proof.specs.PlaneSums.{IsRowWithin, IsWeight, IsRadius};
 
-use crate::plane_sums::{Sums, add_row, clear_slopes, greatest_mean_height};
+use crate::plane_sums::{
+    Sums, add_weighted_plane_of_row, clear_slopes, greatest_mean_plane_height,
+};
 use plain_lists::lists::{Amounts, Numbers};
 use uc_model::cases::{Case, Row};
 
@@ -56,8 +58,14 @@ pub fn bound_of(
         weight: 0,
     };
     for index in (0..rows.len()).rev() {
-        sums = add_row(case, row_at(rows, index), *weights.get(index), sums, work);
+        sums = add_weighted_plane_of_row(
+            case,
+            row_at(rows, index),
+            *weights.get(index),
+            sums,
+            work,
+        );
     }
     let middle = row_at(rows, centre as usize - 1);
-    greatest_mean_height(case, &middle.prices, radius, sums, work)
+    greatest_mean_plane_height(case, &middle.prices, radius, sums, work)
 }

@@ -14,7 +14,7 @@ ghost use Rattle.gap_proof.specs.Mixtures.{most_whole};
 ghost use Rattle.gap_proof.specs.MixtureBound.{greatest, added};
 ghost use Rattle.gap_proof.specs.MixtureSizes.{IsLack, IsAdded, IsReserveAdded};
 
-use crate::flat::flat_at;
+use crate::flat::best_earnings_of_renewables_and_bids;
 use uc_model::cases::Case;
 
 /// The lowest and the highest price of an interval.
@@ -38,7 +38,7 @@ pub struct Lack {
 }
 
 // What an energy price adds.
-fn energy_term_at(case: &Case, lack: Lack, price: i64) -> i128
+fn energy_bound_term_at(case: &Case, lack: Lack, price: i64) -> i128
     requires index { lack.index < (market_of case.now).periods }
     requires weight { IsFrom (pos 0) most_whole lack.weight }
     requires power { IsLack lack.power }
@@ -47,12 +47,13 @@ fn energy_term_at(case: &Case, lack: Lack, price: i64) -> i128
     ensures limit { IsAdded result }
 {
     let lacking = i128::from(price) * lack.power;
-    let flat = i128::from(lack.weight) * flat_at(case, lack.index, price);
+    let flat = i128::from(lack.weight)
+        * best_earnings_of_renewables_and_bids(case, lack.index, price);
     lacking - flat
 }
 
 // Whether the next price adds more than this one.
-fn is_rising(case: &Case, lack: Lack, price: i64) -> bool
+fn is_energy_bound_term_rising(case: &Case, lack: Lack, price: i64) -> bool
     requires index { lack.index < (market_of case.now).periods }
     requires weight { IsFrom (pos 0) most_whole lack.weight }
     requires power { IsLack lack.power }
@@ -62,11 +63,11 @@ fn is_rising(case: &Case, lack: Lack, price: i64) -> bool
         ↔ (added (market_of case.now) lack.weight lack.power lack.index price
         <ℤ added (market_of case.now) lack.weight lack.power lack.index (price +ℤ pos 1)) }
 {
-    energy_term_at(case, lack, price) < energy_term_at(case, lack, price + 1)
+    energy_bound_term_at(case, lack, price) < energy_bound_term_at(case, lack, price + 1)
 }
 
 // The price so far above the lowest.
-fn price_above(prices: Interval, more: u64) -> i64
+fn price_above_interval_start(prices: Interval, more: u64) -> i64
     requires low { IsFrom (neg_ℤ price_limit) price_limit prices.low }
     requires more { (prices.low +ℤ pos more) ≤ℤ price_limit }
     ensures { result ≡ prices.low +ℤ pos more }
@@ -75,7 +76,7 @@ fn price_above(prices: Interval, more: u64) -> i64
 }
 
 /// The most that any whole energy price of the interval adds.
-pub fn most_energy_term(case: &Case, lack: Lack, prices: Interval) -> i128
+pub fn greatest_energy_bound_term(case: &Case, lack: Lack, prices: Interval) -> i128
     requires index { lack.index < (market_of case.now).periods }
     requires weight { IsFrom (pos 0) most_whole lack.weight }
     requires power { IsLack lack.power }
@@ -91,17 +92,17 @@ pub fn most_energy_term(case: &Case, lack: Lack, prices: Interval) -> i128
     let mut last = prices.high.abs_diff(prices.low);
     while first < last {
         let middle = first + (last - first) / 2;
-        if is_rising(case, lack, price_above(prices, middle)) {
+        if is_energy_bound_term_rising(case, lack, price_above_interval_start(prices, middle)) {
             first = middle + 1;
         } else {
             last = middle;
         }
     }
-    energy_term_at(case, lack, price_above(prices, first))
+    energy_bound_term_at(case, lack, price_above_interval_start(prices, first))
 }
 
 // What so much reserve that is lacking adds at a price.
-fn reserve_term_at(lacking: i128, price: i64) -> i128
+fn reserve_bound_term_at(lacking: i128, price: i64) -> i128
     requires lacking { IsLack lacking }
     requires price { IsFrom (neg_ℤ price_limit) price_limit price }
     ensures value { result ≡ lacking *ℤ price }
@@ -111,12 +112,12 @@ fn reserve_term_at(lacking: i128, price: i64) -> i128
 }
 
 /// The most that a reserve price of the interval adds, which is at one of its ends.
-pub fn most_reserve_term(lacking: i128, prices: Interval) -> i128
+pub fn greatest_reserve_bound_term(lacking: i128, prices: Interval) -> i128
     requires lacking { IsLack lacking }
     requires low { IsFrom (neg_ℤ price_limit) price_limit prices.low }
     requires high { IsFrom (neg_ℤ price_limit) price_limit prices.high }
     ensures value { result ≡ int_max (lacking *ℤ prices.low) (lacking *ℤ prices.high) }
     ensures limit { IsReserveAdded result }
 {
-    reserve_term_at(lacking, prices.low).max(reserve_term_at(lacking, prices.high))
+    reserve_bound_term_at(lacking, prices.low).max(reserve_bound_term_at(lacking, prices.high))
 }

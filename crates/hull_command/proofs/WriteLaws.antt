@@ -5,8 +5,8 @@ use Rattle.hull_command.specs.Answers.{IsTextOf}
 use Rattle.hull_command.specs.declared.answer.Answer.{Answer}
 use Rattle.board_store.specs.Calls.{own_rows}
 use Rattle.hull_report.specs.BoundText.{bound_text}
-use Rattle.right_report.specs.RecordReport.{chosen_of, value_of, report_of, RecordReportIsRight}
-use Rattle.right_report.specs.RecordReport.{SettlementsAreOfAllUnits}
+use Rattle.right_report.specs.RecordReport.{chosen_of, value_of, report_of, ReportOfFinishedBoardIsRight}
+use Rattle.right_report.specs.RecordReport.{SettlementHasEntryForEachUnit}
 use Rattle.plan_settle.specs.declared.done.Done.{Done}
 use Rattle.plan_settle.specs.declared.bound.Bounded.{Bounded}
 use Rattle.plan_settle.specs.Bounded.{IsBounded}
@@ -27,7 +27,7 @@ module _ {S E : Type 0} {held : S → Option (List ℕ)} {faults : S → ℕ} {l
   at_number text x y same w = subst (λ (z : ℤ). Writes held faults last old new r (text z)) same w
 
 -- the settlement has one number for each unit
-pub ended_lengths : SettlementsAreOfAllUnits → (d : Done) → IsEnded d.closed.setup d
+pub ended_lengths : SettlementHasEntryForEachUnit → (d : Done) → IsEnded d.closed.setup d
     → (length d.settlement.scheduled.items ≡ unit_count d.closed.setup.market) ×
     (length d.settlement.payments.items ≡ unit_count d.closed.setup.market)
 ended_lengths settled_lengths d h =
@@ -35,7 +35,7 @@ ended_lengths settled_lengths d h =
     d.settlement.payments.items d.settlement.surplus d.settlement.total
     h.settled.feasible h.settled.settled
 
-pub run_text : RecordReportIsRight → (text_of : Report → List ℕ) (d : Done) → IsEnded d.closed.setup d →
+pub run_text : ReportOfFinishedBoardIsRight → (text_of : Report → List ℕ) (d : Done) → IsEnded d.closed.setup d →
     IsRunText text_of d.closed.setup (text_of (report_of d.closed d.settlement))
 run_text right text_of d h = (report_of d.closed d.settlement, right d.closed d.settlement h.row h.settled, refl)
 
@@ -45,7 +45,7 @@ written_bound b =
     bound_text (length (own_rows b.done.closed)) (chosen_of b.done.closed) (value_of b.done.closed)
     (unsigned_abs b.radius) b.certified.first b.certified.last b.certified.bound
 
-pub bound_written : RecordReportIsRight → (b : Bounded) → IsBounded b.done.closed.setup b.radius b
+pub bound_written : ReportOfFinishedBoardIsRight → (b : Bounded) → IsBounded b.done.closed.setup b.radius b
     → IsBoundText b.done.closed.setup.budget b.done.closed.setup.ahead b.radius (planned_in b.done.closed.setup)
     (written_bound b)
 unfolding report_of

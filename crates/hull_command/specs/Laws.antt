@@ -5,6 +5,6 @@ use Rattle.hull_words.specs.Words.{words_of}
 use Rattle.hull_command.specs.Sizes.{HasSizes}
 
 -- the numbers that words ask for are within their ranges
-abbrev pub WordsHaveSizes : Type 0
-WordsHaveSizes =
+abbrev pub WordsHaveNumbersInRange : Type 0
+WordsHaveNumbersInRange =
     (words : List (List ℕ)) (a : Asked) → words_of words ≡ Ok a → HasSizes a

@@ -8,7 +8,7 @@ ghost use Rattle.hull_input.specs.Answers.{IsFitPriced};
 ghost use Rattle.hull_command.specs.Answers.{HasCertified, IsCertifiedAt};
 
 use crate::answer::CertifiedInput;
-use crate::settle::settle_input;
+use crate::settle::settle_schedule_at_prices;
 use gap_proof::{Mixture, bound_of_mixture};
 use hull_input::PricedInput;
 use hull_report::MixtureBound;
@@ -16,7 +16,7 @@ use std::alloc::{AllocError, Global};
 
 /// What the schedule of an input is settled at, at its prices, and the bound by a mixture on the
 /// dual value of all prices within a radius of them.
-pub fn bound_certify_input(
+pub fn certify_by_mixture(
     alloc: Global,
     priced: PricedInput,
     mixture: &Mixture,
@@ -32,7 +32,7 @@ pub fn bound_certify_input(
     ensures told { IfOk result (λ x. HasCertified x) }
 {
     let bound = bound_of_mixture(&priced.input.case, mixture, &priced.prices, radius);
-    let settled = settle_input(alloc, priced)?;
+    let settled = settle_schedule_at_prices(alloc, priced)?;
     let within = MixtureBound { radius, bound };
     Ok(CertifiedInput { settled, within })
 }

@@ -5,7 +5,7 @@ ghost use Rattle.hull_input.specs.Answers.{IsFitSearch};
 ghost use Rattle.hull_command.specs.Answers.{HasFound, IsFoundIn};
 
 use crate::answer::FoundInput;
-use crate::settle::settle_input;
+use crate::settle::settle_schedule_at_prices;
 use convex_search::{Found, Goal, find_convex};
 use hull_input::{PricedInput, SearchInput};
 use std::alloc::{AllocError, Global};
@@ -37,7 +37,7 @@ pub fn find_convex_prices(
         bound,
         made,
     } = found;
-    let settled = settle_input(alloc, PricedInput { input, prices })?;
+    let settled = settle_schedule_at_prices(alloc, PricedInput { input, prices })?;
     Ok(FoundInput {
         settled,
         goal,

@@ -22,7 +22,7 @@ use hull_report::{
     write_fixed, write_report, write_settlement, write_try,
 };
 use plan_settle::Done;
-use right_report::laws::{record_report_is_right, settlements_are_of_all_units};
+use right_report::laws::{report_of_finished_board_is_right, settlement_has_entry_for_each_unit};
 
 /// How a command ended.
 #[derive(Clone, Copy)]
@@ -37,7 +37,7 @@ pub enum End {
 
 impl End {
     /// How a command ended whose text was written so.
-    pub fn of_text(written: Result<(), WriteFailed>) -> End
+    pub fn end_of_written_text(written: Result<(), WriteFailed>) -> End
         ensures whole { OnOk written (result ≡ ends.Done) }
         ensures cut { OnErr written (result ≡ ends.Cut) }
     {
@@ -61,7 +61,7 @@ impl End {
 
 /// Writes the report of a run that has ended, which is left as it was but for its room for an
 /// answer. It takes no memory, and fails only where the sink does.
-pub fn write_run_report<S: Sink>(done: &mut Done, out: &mut S) -> Result<(), WriteFailed>
+pub fn write_price_report<S: Sink>(done: &mut Done, out: &mut S) -> Result<(), WriteFailed>
     requires { IsEnded done.old.closed.setup done.old }
     ensures text { Writes S.held S.faults S.last out.old out.new result
         (report_text (report_of done.old.closed done.old.settlement)) }
@@ -70,12 +70,12 @@ pub fn write_run_report<S: Sink>(done: &mut Done, out: &mut S) -> Result<(), Wri
     ensures horizon { length (schedule_of done.new.buffer.response).on
         ≡ done.old.closed.setup.market.periods }
 {
-    settlements_are_of_all_units();
+    settlement_has_entry_for_each_unit();
     write_report(&done.closed, &done.settlement, &mut done.buffer, out)
 }
 
 /// Writes the text of what a search found.
-fn write_search_text<S: Sink>(searched: &FoundInput, out: &mut S) -> Result<(), WriteFailed>
+fn write_convex_search_text<S: Sink>(searched: &FoundInput, out: &mut S) -> Result<(), WriteFailed>
     requires { HasFound searched.now }
     ensures { Writes S.held S.faults S.last out.old out.new result
         (found_text searched.now) }
@@ -103,9 +103,9 @@ fn write_answer<S: Sink>(answer: &mut Answer, out: &mut S) -> Result<(), WriteFa
     ensures { (text : List ℕ) × IsTextOf answer.old text
         × Writes S.held S.faults S.last out.old out.new result text }
 {
-    record_report_is_right();
+    report_of_finished_board_is_right();
     match answer {
-        Answer::Price(done) => write_run_report(done, out),
+        Answer::Price(done) => write_price_report(done, out),
         Answer::Check(input) => write_check(&input.case, input.cost, out),
         Answer::Settle(settled) => {
             let input = &settled.input;
@@ -115,7 +115,7 @@ fn write_answer<S: Sink>(answer: &mut Answer, out: &mut S) -> Result<(), WriteFa
             let SettledInput { input, settled } = &certified.settled;
             write_certificate(&input.case, input.cost, settled, certified.within, out)
         }
-        Answer::Convex(found) => write_search_text(found, out),
+        Answer::Convex(found) => write_convex_search_text(found, out),
         Answer::Try(number, done) => write_try(*number, &done.closed, &done.settlement, out),
         Answer::Bound(bounded) => {
             write_bound(
@@ -146,7 +146,7 @@ pub fn finish<S: Sink>(answer: Result<Answer, TopFault>, out: &mut S) -> End
     ensures sink { S.faults out.old ≤ S.faults out.new }
 {
     match answer {
-        Ok(mut answer) => End::of_text(write_answer(&mut answer, out)),
+        Ok(mut answer) => End::end_of_written_text(write_answer(&mut answer, out)),
         Err(fault) => {
             let _ = write_fault(&fault, out);
             End::Refused(fault)
@@ -155,7 +155,7 @@ pub fn finish<S: Sink>(answer: Result<Answer, TopFault>, out: &mut S) -> End
 }
 
 /// Hands on what is ready for its run, with nothing written, or writes the line of what refused it.
-pub fn hand_on_to_run<S: Sink>(ready: Result<Ready, TopFault>, out: &mut S) -> Before
+pub fn pass_on_run_or_write_fault<S: Sink>(ready: Result<Ready, TopFault>, out: &mut S) -> Before
     requires { IfOk ready IsReady }
     ensures before { IsHandedOn (Gains S.held S.faults out.old out.new)
         (FallsShort S.held S.faults S.last out.old out.new) ready result }

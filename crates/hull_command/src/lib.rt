@@ -23,10 +23,10 @@ mod ready;
 mod settle;
 
 pub use answer::Answer;
-pub use end::{End, finish, write_run_report};
-use hull_input::laws::something_may_be_read;
+pub use end::{End, finish, write_price_report};
+use hull_input::laws::some_reads_of_files_exist;
 use hull_io::{Shelf, Sink};
-use prepare::{begin_command, command_of_words};
+use prepare::{answer_or_prepare_command, command_of_words};
 pub use ready::{Before, Purpose, Ready};
 use std::alloc::Global;
 
@@ -52,9 +52,9 @@ pub fn hull_before_run<F: Shelf, S: Sink>(
         → shelf.new ≡ shelf.old }
     ensures unwritten { IsUntouched result (out.new ≡ out.old) }
 {
-    something_may_be_read::<F>();
+    some_reads_of_files_exist::<F>();
     match command_of_words(alloc, words) {
-        Ok(command) => begin_command(alloc, shelf, &command, out),
+        Ok(command) => answer_or_prepare_command(alloc, shelf, &command, out),
         Err(fault) => Before::Ended(finish(Err(fault), out)),
     }
 }

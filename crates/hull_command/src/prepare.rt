@@ -20,17 +20,17 @@ ghost use Rattle.hull_command.specs.Rest.{IsOfInputAlone, run_with, IsBefore, Is
 ghost use Rattle.hull_command.specs.Sizes.{HasSizes};
 
 use crate::answer::Answer;
-use crate::certify::bound_certify_input;
+use crate::certify::certify_by_mixture;
 use crate::convex::find_convex_prices;
-use crate::end::{finish, hand_on_to_run};
+use crate::end::{finish, pass_on_run_or_write_fault};
 use crate::ready::{Before, Purpose, Ready};
-use crate::settle::settle_input;
+use crate::settle::settle_schedule_at_prices;
 use case_make::make_case;
 use hull_fault::TopFault;
 use hull_input::laws::report_bytes_are_its_text;
 use hull_input::{
-    Input, MixedInput, ReportedRun, read_audit_input, read_certify_input, read_convex_input,
-    read_input, read_run_input, read_settle_input, within_work,
+    Input, MixedInput, ReportedRun, read_audit_input, read_case_and_schedule, read_certify_input,
+    read_convex_input, read_pricing_run_input, read_settle_input, run_terms_within_work_limit,
 };
 use hull_io::{Shelf, Sink};
 use hull_words::{
@@ -68,12 +68,12 @@ fn answer_check<F: Shelf>(
 {
     let case_name = words.case_name.as_str();
     let schedule_name = words.schedule_name.as_str();
-    let input = read_input(alloc, shelf, case_name, schedule_name)?;
+    let input = read_case_and_schedule(alloc, shelf, case_name, schedule_name)?;
     Ok(Answer::Check(input))
 }
 
 /// What a command runs on a case and its schedule, for such a purpose.
-fn prepare_run<F: Shelf>(
+fn prepare_pricing_run<F: Shelf>(
     alloc: Global,
     shelf: &mut F,
     words: &PriceWords,
@@ -90,14 +90,14 @@ fn prepare_run<F: Shelf>(
     ensures shelf { IsLaterShelf F.told F.faults shelf.old shelf.new }
 {
     // (by a match, which is cheaper to prove here than `?`)
-    match read_run_input(alloc, shelf, words) {
+    match read_pricing_run_input(alloc, shelf, words) {
         Ok(terms) => Ok(Ready { purpose, terms }),
         Err(fault) => Err(fault),
     }
 }
 
 /// The case and the feasible schedule that a number stands for.
-fn generated_input(alloc: Global, number: u64) -> Result<Input, AllocError>
+fn generated_case_and_schedule(alloc: Global, number: u64) -> Result<Input, AllocError>
     ensures made { IfOk result (λ input. planned_of input ≡ made_case number) }
     ensures planned { IfOk result (λ input. IsPlanned input) }
 {
@@ -114,10 +114,10 @@ fn prepare_try(alloc: Global, words: &TryWords) -> Result<Ready, TopFault>
         → IsReadied (command_for (Ok (try (try_asked words.now)))) reads result }
     ensures ready { IfOk result IsReady }
 {
-    let Ok(input) = generated_input(alloc, words.number) else {
+    let Ok(input) = generated_case_and_schedule(alloc, words.number) else {
         return Err(TopFault::Memory);
     };
-    let terms = within_work(input, words.proposals, words.ahead, words.workers)?;
+    let terms = run_terms_within_work_limit(input, words.proposals, words.ahead, words.workers)?;
     let purpose = Purpose::Try(words.number);
     Ok(Ready { purpose, terms })
 }
@@ -153,7 +153,7 @@ fn answer_settle<F: Shelf>(
     ensures shelf { IsLaterShelf F.told F.faults shelf.old shelf.new }
 {
     let priced = read_settle_input(alloc, shelf, words)?;
-    let settled = settle_input(alloc, priced)?;
+    let settled = settle_schedule_at_prices(alloc, priced)?;
     Ok(Answer::Settle(settled))
 }
 
@@ -171,7 +171,7 @@ fn answer_certify<F: Shelf>(
 {
     let mixed = read_certify_input(alloc, shelf, words)?;
     let MixedInput { priced, mixture } = mixed;
-    let certified = bound_certify_input(alloc, priced, &mixture, words.radius)?;
+    let certified = certify_by_mixture(alloc, priced, &mixture, words.radius)?;
     Ok(Answer::Certify(certified))
 }
 
@@ -194,7 +194,7 @@ fn answer_convex<F: Shelf>(
 
 /// Does all of a command that comes before a run. It answers how the command has ended, or else what
 /// is left to be run, with nothing written yet.
-pub fn begin_command<F: Shelf, S: Sink>(
+pub fn answer_or_prepare_command<F: Shelf, S: Sink>(
     alloc: Global,
     shelf: &mut F,
     command: &Command,
@@ -214,20 +214,23 @@ pub fn begin_command<F: Shelf, S: Sink>(
 {
     match command {
         Command::Check(words) => Before::Ended(finish(answer_check(alloc, shelf, words), out)),
-        Command::Price(words) => hand_on_to_run(
-            prepare_run(alloc, shelf, words, Purpose::Price),
+        Command::Price(words) => pass_on_run_or_write_fault(
+            prepare_pricing_run(alloc, shelf, words, Purpose::Price),
             out,
         ),
-        Command::Try(words) => hand_on_to_run(prepare_try(alloc, words), out),
+        Command::Try(words) => pass_on_run_or_write_fault(prepare_try(alloc, words), out),
         Command::Bound(words) => {
             let purpose = Purpose::Bound(words.radius);
-            hand_on_to_run(prepare_run(alloc, shelf, &words.run, purpose), out)
+            pass_on_run_or_write_fault(prepare_pricing_run(alloc, shelf, &words.run, purpose), out)
         }
-        Command::Fixed(words) => hand_on_to_run(
-            prepare_run(alloc, shelf, words, Purpose::Fixed),
+        Command::Fixed(words) => pass_on_run_or_write_fault(
+            prepare_pricing_run(alloc, shelf, words, Purpose::Fixed),
             out,
         ),
-        Command::Audit(words) => hand_on_to_run(prepare_audit(alloc, shelf, words), out),
+        Command::Audit(words) => pass_on_run_or_write_fault(
+            prepare_audit(alloc, shelf, words),
+            out,
+        ),
         Command::Settle(words) => Before::Ended(finish(answer_settle(alloc, shelf, words), out)),
         Command::Certify(words) => Before::Ended(finish(answer_certify(alloc, shelf, words), out)),
         Command::Convex(words) => Before::Ended(finish(answer_convex(alloc, shelf, words), out)),

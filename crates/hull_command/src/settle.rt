@@ -12,10 +12,13 @@ use plan_settle::settle_at;
 use price_settle::laws::settlements_have_each_unit;
 use std::alloc::{AllocError, Global};
 use uc_model::laws::{dual_values_are_within, plan_costs_are_within};
-use unit_program::bench_for;
+use unit_program::make_bench_for_case;
 
 /// What the schedule of an input is settled at, at its prices.
-pub fn settle_input(alloc: Global, priced: PricedInput) -> Result<SettledInput, AllocError>
+pub fn settle_schedule_at_prices(
+    alloc: Global,
+    priced: PricedInput,
+) -> Result<SettledInput, AllocError>
     requires { IsFitPriced priced }
     ensures input { IfOk result (λ s. s.input ≡ priced.input) }
     ensures settled { IfOk result (λ s. IsSettledAt (market_of s.input.case)
@@ -26,7 +29,7 @@ pub fn settle_input(alloc: Global, priced: PricedInput) -> Result<SettledInput, 
     dual_values_are_within();
     settlements_have_each_unit();
     let PricedInput { input, prices } = priced;
-    let mut bench = bench_for(alloc, &input.case)?;
+    let mut bench = make_bench_for_case(alloc, &input.case)?;
     let settled = settle_at(alloc, &input.case, &input.plan, prices, &mut bench)?;
     Ok(SettledInput { input, settled })
 }

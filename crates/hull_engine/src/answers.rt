@@ -9,10 +9,10 @@ ghost use Rattle.hull_command.specs.Rest.{rest_with, nothing_read};
 ghost use Rattle.hull_input.specs.Answers.{IsFitReport};
 ghost use Rattle.hull_command.specs.declared.ready.Purpose.TheVariants as purposes;
 
-use crate::audit::right_proposals;
+use crate::audit::proposal_count_of_right_report;
 use answer_workers::Gate;
 use board_core::Terms;
-use board_run::{open_run, run_and_bound, run_board, run_free_and_fixed};
+use board_run::{open_run, run_and_bound, run_board, run_with_free_and_fixed_commitments};
 use hull_command::Answer;
 use hull_fault::TopFault;
 use report_read::Report;
@@ -82,7 +82,7 @@ pub fn answer_fixed<R: Threads + Wait + Sync, G: Gate>(
         terms.budget terms.ahead) nothing_read result }
     ensures answered { IfOk result (λ answer. IsAnswered answer) }
 {
-    Ok(Answer::Fixed(run_free_and_fixed(rt, alloc, terms, gate)?))
+    Ok(Answer::Fixed(run_with_free_and_fixed_commitments(rt, alloc, terms, gate)?))
 }
 
 /// What `hull audit` answers, after its run, of a report.
@@ -99,5 +99,5 @@ pub fn answer_audit<R: Threads + Wait + Sync>(
         terms.budget terms.ahead) nothing_read result }
     ensures answered { IfOk result (λ answer. IsAnswered answer) }
 {
-    Ok(Answer::Audit(right_proposals(rt, alloc, &terms, &report)?))
+    Ok(Answer::Audit(proposal_count_of_right_report(rt, alloc, &terms, &report)?))
 }

@@ -20,7 +20,7 @@ use std::alloc::{AllocError, Global};
 use std::sync::Wait;
 use std::thread::Threads;
 use uc_model::cases::Case;
-use unit_program::{Bench, bench_for};
+use unit_program::{Bench, make_bench_for_case};
 
 /// The units and periods of a proposal, multiplied, that are worth a job: to start a thread takes
 /// about as long.
@@ -28,7 +28,7 @@ const WORTH_A_JOB: u32 = 512;
 
 /// To how many jobs an audit is dealt: one for each worker, but no more than a proposal has work
 /// for.
-fn job_count(case: &Case, workers: u32) -> u32
+fn audit_job_count(case: &Case, workers: u32) -> u32
     requires { 1 ≤ workers }
     ensures some { 1 ≤ result }
     ensures most { result ≤ workers }
@@ -37,21 +37,25 @@ fn job_count(case: &Case, workers: u32) -> u32
 }
 
 /// So many benches, each of which suffices for every thermal unit of the case.
-fn benches_for(alloc: Global, case: &Case, count: u32) -> Result<Vec<Bench>, AllocError>
+fn workspaces_for_audit_jobs(
+    alloc: Global,
+    case: &Case,
+    count: u32,
+) -> Result<Vec<Bench>, AllocError>
     ensures count { IfOk result (λ benches. length benches.items ≡ count) }
     ensures benches { IfOk result (λ benches.
         All (IsBenchOver (market_of case.now)) benches.items) }
 {
     let mut benches = Vec::new(alloc);
     for _ in 0..count {
-        benches.push(bench_for(alloc, case)?)?;
+        benches.push(make_bench_for_case(alloc, case)?)?;
     }
     Ok(benches)
 }
 
 /// How many proposals a report has that is right for the terms, or its first wrong line. The audit
 /// is dealt to as many jobs as there are workers, or to fewer where a proposal is small.
-pub fn right_proposals<R: Threads + Wait + Sync>(
+pub fn proposal_count_of_right_report<R: Threads + Wait + Sync>(
     rt: &R,
     alloc: Global,
     terms: &Terms,
@@ -66,8 +70,8 @@ pub fn right_proposals<R: Threads + Wait + Sync>(
     ensures count { IfOk result (λ n. n ≡ length (report_of report.now).rows) }
 {
     let case = &terms.case;
-    let jobs = job_count(case, terms.callers);
-    let Ok(benches) = benches_for(alloc, case, jobs) else {
+    let jobs = audit_job_count(case, terms.callers);
+    let Ok(benches) = workspaces_for_audit_jobs(alloc, case, jobs) else {
         return Err(TopFault::Memory);
     };
     match check_report(rt, alloc, case, &terms.plan, terms.cost, report, benches) {

@@ -15,7 +15,7 @@ use crate::workers::terms_for_workers;
 use answer_workers::Gate;
 use board_core::Closed;
 use board_run::{Run, run_board};
-use hull_command::{End, Purpose, Ready, finish, write_run_report};
+use hull_command::{End, Purpose, Ready, finish, write_price_report};
 use hull_io::Sink;
 use plan_settle::Done;
 use std::alloc::Global;
@@ -37,7 +37,7 @@ pub fn finish_run<R: Threads + Wait + Sync, S: Sink, G: Gate>(
         (FallsShort S.held S.faults S.last out.old out.new (report_text (report_of result.1 s))) }
 {
     let mut done = run_board(rt, run, gate);
-    let end = End::of_text(write_run_report(&mut done, out));
+    let end = End::end_of_written_text(write_price_report(&mut done, out));
     let Done {
         closed,
         settlement: _,
@@ -50,7 +50,7 @@ pub fn finish_run<R: Threads + Wait + Sync, S: Sink, G: Gate>(
 /// Does what is left of a command with so many workers, which are those of the words that are
 /// useful, and writes its text or the line of its fault. An audit takes memory as it goes; each
 /// other run when it opens.
-pub fn finish_command<R: Threads + Wait + Sync, S: Sink, G: Gate>(
+pub fn run_prepared_command<R: Threads + Wait + Sync, S: Sink, G: Gate>(
     rt: &R,
     alloc: Global,
     ready: Ready,

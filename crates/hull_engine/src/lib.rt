@@ -15,8 +15,8 @@ mod end;
 mod workers;
 
 use answer_workers::Gate;
-use end::finish_command;
 pub use end::finish_run;
+use end::run_prepared_command;
 use hull_command::{Before, hull_before_run};
 use hull_io::{Shelf, Sink};
 use std::alloc::Global;
@@ -31,8 +31,9 @@ pub use workers::useful_workers;
 /// What that says of a run is one relation, `IsOutcome` in hull_command's specs/Outcome.antt, to be read from top
 /// to bottom. The crate law_outcome has what follows from it: the cause of each status; that at most
 /// one thing is due; that what was read decides, unless a count of faults rose or memory ran out;
-/// and what a printed report promises. It names no workers: for every number of them, and every
-/// gate, the text of the same words over the same files is one and the same.
+/// and what a printed report promises. It names no workers: of the same words but for their number,
+/// over files that are told alike, at most one text may be printed, whatever the gate. Of `convex`
+/// it isn't said which prices are found.
 pub fn hull_run<R: Threads + Wait + Sync, F: Shelf, S: Sink, G: Gate>(
     rt: &R,
     alloc: Global,
@@ -58,7 +59,7 @@ pub fn hull_run<R: Threads + Wait + Sync, F: Shelf, S: Sink, G: Gate>(
         Before::Ended(end) => end.status(),
         Before::Ready(ready) => {
             let workers = useful_workers(rt, ready.terms.callers);
-            finish_command(rt, alloc, ready, workers, out, gate).status()
+            run_prepared_command(rt, alloc, ready, workers, out, gate).status()
         }
     }
 }

@@ -12,8 +12,8 @@ use gap_proof::EntryFault;
 use hull_io::{Sink, WriteFailed, write_whole};
 use hull_words::WordFault;
 use plan_check::RuleFault;
-use report_form::laws::texts_add_up;
-use report_form::{Part, write_form};
+use report_form::laws::texts_written_in_turn_add_up;
+use report_form::{Part, write_form_filled_with_parts};
 use uc_field::fault::FieldFault;
 use uc_mixture::fault::ShareFault;
 use uc_model::kinds::Kind;
@@ -21,7 +21,7 @@ use uc_plan::fault::ShapeFault;
 use uc_prices::fault::PriceFault;
 use uc_text::TextFault;
 
-fn kind_text(kind: Kind) -> &'static [u8]
+fn unit_kind_text(kind: Kind) -> &'static [u8]
     ensures { result.now ≡ kind_word kind }
 {
     match kind {
@@ -32,7 +32,7 @@ fn kind_text(kind: Kind) -> &'static [u8]
     }
 }
 
-fn file_text(file: FileKind) -> &'static [u8]
+fn file_kind_text(file: FileKind) -> &'static [u8]
     ensures { result.now ≡ file_word file }
 {
     match file {
@@ -45,11 +45,11 @@ fn file_text(file: FileKind) -> &'static [u8]
 }
 
 #[tactic(auto, unfolding(crate::specs::FaultLines::words_told))]
-fn write_words_fault<S: Sink>(fault: &WordFault, out: &mut S) -> Result<(), WriteFailed>
+fn write_command_words_fault<S: Sink>(fault: &WordFault, out: &mut S) -> Result<(), WriteFailed>
     ensures { Writes S.held S.faults S.last out.old out.new result (words_told fault.now) }
 {
     let code = fault.code.number();
-    write_form(
+    write_form_filled_with_parts(
         out,
         b"words % %",
         &[Part::Count(code as u64), Part::Count(fault.position as u64)],
@@ -60,21 +60,21 @@ fn write_words_fault<S: Sink>(fault: &WordFault, out: &mut S) -> Result<(), Writ
 fn write_read_fault<S: Sink>(file: FileKind, out: &mut S) -> Result<(), WriteFailed>
     ensures { Writes S.held S.faults S.last out.old out.new result (read_told file) }
 {
-    let word = file_text(file);
-    write_form(out, b"read %", &[Part::Text(word)])
+    let word = file_kind_text(file);
+    write_form_filled_with_parts(out, b"read %", &[Part::Text(word)])
 }
 
 #[tactic(auto, unfolding(crate::specs::FaultLines::text_told))]
-fn write_text_fault<S: Sink>(
+fn write_json_text_fault<S: Sink>(
     file: FileKind,
     fault: &TextFault,
     out: &mut S,
 ) -> Result<(), WriteFailed>
     ensures { Writes S.held S.faults S.last out.old out.new result (text_told file fault.now) }
 {
-    let word = file_text(file);
+    let word = file_kind_text(file);
     let code = fault.code.number();
-    write_form(
+    write_form_filled_with_parts(
         out,
         b"% % at %",
         &[
@@ -91,8 +91,8 @@ fn write_field_fault<S: Sink>(fault: &FieldFault, out: &mut S) -> Result<(), Wri
 {
     let code = fault.code.number();
     let key = fault.field.key().as_bytes();
-    let kind = kind_text(fault.kind);
-    write_form(
+    let kind = unit_kind_text(fault.kind);
+    write_form_filled_with_parts(
         out,
         b"case % field % kind % unit % item %",
         &[
@@ -106,12 +106,12 @@ fn write_field_fault<S: Sink>(fault: &FieldFault, out: &mut S) -> Result<(), Wri
 }
 
 #[tactic(auto, unfolding(crate::specs::FaultLines::shape_told))]
-fn write_shape_fault<S: Sink>(fault: &ShapeFault, out: &mut S) -> Result<(), WriteFailed>
+fn write_schedule_shape_fault<S: Sink>(fault: &ShapeFault, out: &mut S) -> Result<(), WriteFailed>
     ensures { Writes S.held S.faults S.last out.old out.new result (shape_told fault.now) }
 {
     let code = fault.code.number();
-    let kind = kind_text(fault.kind);
-    write_form(
+    let kind = unit_kind_text(fault.kind);
+    write_form_filled_with_parts(
         out,
         b"schedule % kind % unit % item %",
         &[
@@ -124,12 +124,12 @@ fn write_shape_fault<S: Sink>(fault: &ShapeFault, out: &mut S) -> Result<(), Wri
 }
 
 #[tactic(auto, unfolding(crate::specs::FaultLines::rule_told))]
-fn write_rule_fault<S: Sink>(fault: &RuleFault, out: &mut S) -> Result<(), WriteFailed>
+fn write_schedule_rule_fault<S: Sink>(fault: &RuleFault, out: &mut S) -> Result<(), WriteFailed>
     ensures { Writes S.held S.faults S.last out.old out.new result (rule_told fault.now) }
 {
     let code = fault.code.number();
-    let kind = kind_text(fault.kind);
-    write_form(
+    let kind = unit_kind_text(fault.kind);
+    write_form_filled_with_parts(
         out,
         b"schedule % kind % unit % period % left % right %",
         &[
@@ -147,12 +147,12 @@ fn write_rule_fault<S: Sink>(fault: &RuleFault, out: &mut S) -> Result<(), Write
 fn write_too_big_fault<S: Sink>(file: FileKind, out: &mut S) -> Result<(), WriteFailed>
     ensures { Writes S.held S.faults S.last out.old out.new result (too_big_told file) }
 {
-    let word = file_text(file);
-    write_form(out, b"% 32", &[Part::Text(word)])
+    let word = file_kind_text(file);
+    write_form_filled_with_parts(out, b"% 32", &[Part::Text(word)])
 }
 
 #[tactic(auto, unfolding(crate::specs::FaultLines::work_told))]
-fn write_work_fault<S: Sink>(
+fn write_work_limit_fault<S: Sink>(
     proposals: u32,
     units: u32,
     periods: u32,
@@ -161,7 +161,7 @@ fn write_work_fault<S: Sink>(
     ensures { Writes S.held S.faults S.last out.old out.new result
         (work_told proposals units periods) }
 {
-    write_form(
+    write_form_filled_with_parts(
         out,
         b"work % % %",
         &[
@@ -177,7 +177,7 @@ fn write_report_fault<S: Sink>(code: ReportCode, line: u32, out: &mut S) -> Resu
     ensures { Writes S.held S.faults S.last out.old out.new result (report_told code line) }
 {
     let code = code.number();
-    write_form(
+    write_form_filled_with_parts(
         out,
         b"report % at %",
         &[Part::Count(code as u64), Part::Count(line as u64)],
@@ -185,12 +185,12 @@ fn write_report_fault<S: Sink>(code: ReportCode, line: u32, out: &mut S) -> Resu
 }
 
 #[tactic(auto, unfolding(crate::specs::FaultLines::price_told))]
-fn write_price_fault<S: Sink>(fault: &PriceFault, out: &mut S) -> Result<(), WriteFailed>
+fn write_prices_file_fault<S: Sink>(fault: &PriceFault, out: &mut S) -> Result<(), WriteFailed>
     ensures { Writes S.held S.faults S.last out.old out.new result (price_told fault.now) }
 {
     let code = fault.code.number();
     let key = fault.field.key().as_bytes();
-    write_form(
+    write_form_filled_with_parts(
         out,
         b"prices % field % item %",
         &[
@@ -202,12 +202,12 @@ fn write_price_fault<S: Sink>(fault: &PriceFault, out: &mut S) -> Result<(), Wri
 }
 
 #[tactic(auto, unfolding(crate::specs::FaultLines::share_told))]
-fn write_share_fault<S: Sink>(fault: &ShareFault, out: &mut S) -> Result<(), WriteFailed>
+fn write_mixture_share_fault<S: Sink>(fault: &ShareFault, out: &mut S) -> Result<(), WriteFailed>
     ensures { Writes S.held S.faults S.last out.old out.new result (share_told fault.now) }
 {
     let code = fault.code.number();
-    let kind = kind_text(fault.kind);
-    write_form(
+    let kind = unit_kind_text(fault.kind);
+    write_form_filled_with_parts(
         out,
         b"mixture % kind % unit % entry % item %",
         &[
@@ -221,13 +221,13 @@ fn write_share_fault<S: Sink>(fault: &ShareFault, out: &mut S) -> Result<(), Wri
 }
 
 #[tactic(auto, unfolding(crate::specs::FaultLines::entry_told))]
-fn write_entry_fault<S: Sink>(fault: &EntryFault, out: &mut S) -> Result<(), WriteFailed>
+fn write_mixture_rule_fault<S: Sink>(fault: &EntryFault, out: &mut S) -> Result<(), WriteFailed>
     ensures { Writes S.held S.faults S.last out.old out.new result (entry_told fault.now) }
 {
     let rule = &fault.fault;
     let code = rule.code.number();
-    let kind = kind_text(rule.kind);
-    write_form(
+    let kind = unit_kind_text(rule.kind);
+    write_form_filled_with_parts(
         out,
         b"mixture % kind % unit % entry % period % left % right %",
         &[
@@ -247,26 +247,26 @@ fn write_fault_details<S: Sink>(fault: &TopFault, out: &mut S) -> Result<(), Wri
     ensures { Writes S.held S.faults S.last out.old out.new result (fault_told fault.now) }
 {
     match fault {
-        TopFault::Words(fault) => write_words_fault(fault, out),
+        TopFault::Words(fault) => write_command_words_fault(fault, out),
         TopFault::Read(file) => write_read_fault(*file, out),
-        TopFault::CaseText(fault) => write_text_fault(FileKind::CaseFile, fault, out),
+        TopFault::CaseText(fault) => write_json_text_fault(FileKind::CaseFile, fault, out),
         TopFault::CaseField(fault) => write_field_fault(fault, out),
-        TopFault::PlanText(fault) => write_text_fault(FileKind::ScheduleFile, fault, out),
-        TopFault::PlanShape(fault) => write_shape_fault(fault, out),
-        TopFault::PlanRule(fault) => write_rule_fault(fault, out),
+        TopFault::PlanText(fault) => write_json_text_fault(FileKind::ScheduleFile, fault, out),
+        TopFault::PlanShape(fault) => write_schedule_shape_fault(fault, out),
+        TopFault::PlanRule(fault) => write_schedule_rule_fault(fault, out),
         TopFault::TooBig(file) => write_too_big_fault(*file, out),
         TopFault::Work {
             proposals,
             units,
             periods,
-        } => write_work_fault(*proposals, *units, *periods, out),
+        } => write_work_limit_fault(*proposals, *units, *periods, out),
         TopFault::Memory => write_whole(out, b"memory"),
         TopFault::Report { code, line } => write_report_fault(*code, *line, out),
-        TopFault::PricesText(fault) => write_text_fault(FileKind::PricesFile, fault, out),
-        TopFault::PricesValue(fault) => write_price_fault(fault, out),
-        TopFault::MixtureText(fault) => write_text_fault(FileKind::MixtureFile, fault, out),
-        TopFault::MixtureShare(fault) => write_share_fault(fault, out),
-        TopFault::MixtureRule(fault) => write_entry_fault(fault, out),
+        TopFault::PricesText(fault) => write_json_text_fault(FileKind::PricesFile, fault, out),
+        TopFault::PricesValue(fault) => write_prices_file_fault(fault, out),
+        TopFault::MixtureText(fault) => write_json_text_fault(FileKind::MixtureFile, fault, out),
+        TopFault::MixtureShare(fault) => write_mixture_share_fault(fault, out),
+        TopFault::MixtureRule(fault) => write_mixture_rule_fault(fault, out),
     }
 }
 
@@ -274,7 +274,7 @@ fn write_fault_details<S: Sink>(fault: &TopFault, out: &mut S) -> Result<(), Wri
 fn write_status<S: Sink>(status: u8, out: &mut S) -> Result<(), WriteFailed>
     ensures { Writes S.held S.faults S.last out.old out.new result (status_told status) }
 {
-    write_form(out, b"fault % ", &[Part::Count(status as u64)])
+    write_form_filled_with_parts(out, b"fault % ", &[Part::Count(status as u64)])
 }
 
 /// Writes the line of a fault. Refused only where the sink's count of faults rose, and then the
@@ -282,7 +282,7 @@ fn write_status<S: Sink>(status: u8, out: &mut S) -> Result<(), WriteFailed>
 pub fn write_fault<S: Sink>(fault: &TopFault, out: &mut S) -> Result<(), WriteFailed>
     ensures { Writes S.held S.faults S.last out.old out.new result (fault_line fault.now) }
 {
-    texts_add_up::<S>();
+    texts_written_in_turn_add_up::<S>();
     write_status(fault.status(), out)?;
     write_fault_details(fault, out)?;
     write_whole(out, b"\n")

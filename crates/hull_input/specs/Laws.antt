@@ -7,9 +7,9 @@ use Rattle.hull_input.specs.Files.{Reads, AreReads}
 use Rattle.hull_input.specs.Steps.{IsBytes, IsReportFile}
 
 -- whatever is told of the files of these names, something may have been read of them
-abbrev pub SomethingMayBeRead : {F : Type 0} (told : F → List ℕ → Option (List ℕ))
+abbrev pub SomeReadsOfFilesExist : {F : Type 0} (told : F → List ℕ → Option (List ℕ))
     (faults : F → List ℕ → ℕ) (last : Option ℕ) → Type 0
-SomethingMayBeRead {F} told faults last =
+SomeReadsOfFilesExist {F} told faults last =
     (old new : F) (name_of : FileKind → Option (List ℕ)) → (reads : Reads)
     × AreReads (told old) (λ name. Rose last (faults old name) (faults new name)) name_of reads
 

@@ -13,8 +13,11 @@ ghost use Rattle.hull_input.specs.Sizes.{IsRunSize, IsWorkers, HasNumbers, IsRou
 ghost use Rattle.hull_input.specs.Steps.{Then, IsInput, IsWithinWork, IsWithinRounds};
 ghost use Rattle.hull_input.specs.Steps.{rounds_for};
 
-use crate::files::{read_input, read_mixture_file, read_prices_file, read_report_file};
-use crate::input::{MixedInput, PricedInput, ReportedRun, SearchInput, within_rounds, within_work};
+use crate::files::{read_case_and_schedule, read_mixture_file, read_prices_file, read_report_file};
+use crate::input::{
+    MixedInput, PricedInput, ReportedRun, SearchInput, run_terms_within_work_limit,
+    search_input_within_work_limit,
+};
 use board_core::Terms;
 use hull_fault::TopFault;
 use hull_io::Shelf;
@@ -23,7 +26,7 @@ use std::alloc::Global;
 
 /// The terms of the run that words ask for, over the case and the schedule of their files; or the
 /// first fault of a file, or `Work` where the run is above the limit.
-pub fn read_run_input<F: Shelf>(
+pub fn read_pricing_run_input<F: Shelf>(
     alloc: Global,
     shelf: &mut F,
     words: &PriceWords,
@@ -40,8 +43,8 @@ pub fn read_run_input<F: Shelf>(
 {
     let case_name = words.case_name.as_str();
     let schedule_name = words.schedule_name.as_str();
-    let input = read_input(alloc, shelf, case_name, schedule_name)?;
-    within_work(input, words.proposals, words.ahead, words.workers)
+    let input = read_case_and_schedule(alloc, shelf, case_name, schedule_name)?;
+    run_terms_within_work_limit(input, words.proposals, words.ahead, words.workers)
 }
 
 /// The report of its file, and the run that it is to be the report of: with the report's own budget
@@ -65,9 +68,9 @@ pub fn read_audit_input<F: Shelf>(
     let case_name = words.case_name.as_str();
     let schedule_name = words.schedule_name.as_str();
     let report_name = words.report_name.as_str();
-    let input = read_input(alloc, shelf, case_name, schedule_name)?;
+    let input = read_case_and_schedule(alloc, shelf, case_name, schedule_name)?;
     let report = read_report_file(alloc, shelf, report_name)?;
-    let terms = within_work(input, report.budget, report.ahead, words.workers)?;
+    let terms = run_terms_within_work_limit(input, report.budget, report.ahead, words.workers)?;
     Ok(ReportedRun { terms, report })
 }
 
@@ -88,7 +91,7 @@ pub fn read_settle_input<F: Shelf>(
     let case_name = words.case_name.as_str();
     let schedule_name = words.schedule_name.as_str();
     let prices_name = words.prices_name.as_str();
-    let input = read_input(alloc, shelf, case_name, schedule_name)?;
+    let input = read_case_and_schedule(alloc, shelf, case_name, schedule_name)?;
     let prices = read_prices_file(alloc, shelf, prices_name, &input.case)?;
     Ok(PricedInput { input, prices })
 }
@@ -133,6 +136,6 @@ pub fn read_convex_input<F: Shelf>(
 {
     let case_name = words.case_name.as_str();
     let schedule_name = words.schedule_name.as_str();
-    let input = read_input(alloc, shelf, case_name, schedule_name)?;
-    within_rounds(input, words.rounds)
+    let input = read_case_and_schedule(alloc, shelf, case_name, schedule_name)?;
+    search_input_within_work_limit(input, words.rounds)
 }

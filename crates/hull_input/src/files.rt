@@ -21,7 +21,7 @@ use gap_proof::{Mixture, check_mixture};
 use hull_fault::{FileKind, TopFault};
 use hull_io::{ReadFault, Shelf, read_whole};
 use plan_check::check_plan;
-use plan_check::laws::refusals_are_exact;
+use plan_check::laws::feasible_exactly_without_broken_rule;
 use report_read::{Report, read_report};
 use std::alloc::Global;
 use uc_case::read_case;
@@ -32,7 +32,7 @@ use uc_plan::read_plan;
 use uc_prices::read_prices;
 
 /// The bytes of a file.
-fn read_bytes<F: Shelf>(
+fn read_bytes_of_file<F: Shelf>(
     alloc: Global,
     shelf: &mut F,
     name: &str,
@@ -59,7 +59,7 @@ fn read_case_file<F: Shelf>(alloc: Global, shelf: &mut F, name: &str) -> Result<
         (λ read. IsAnswer (IsCaseFile read) market_of result) }
     ensures shelf { IsLaterShelf F.told F.faults shelf.old shelf.new }
 {
-    let bytes = read_bytes(alloc, shelf, name, FileKind::CaseFile)?;
+    let bytes = read_bytes_of_file(alloc, shelf, name, FileKind::CaseFile)?;
     Ok(read_case(alloc, bytes.as_slice())?)
 }
 
@@ -76,17 +76,17 @@ fn read_plan_file<F: Shelf>(
     ensures shape { IfOk result (λ plan. HasPlanShape (market_of case.now) (schedules_of plan)) }
     ensures shelf { IsLaterShelf F.told F.faults shelf.old shelf.new }
 {
-    let bytes = read_bytes(alloc, shelf, name, FileKind::ScheduleFile)?;
+    let bytes = read_bytes_of_file(alloc, shelf, name, FileKind::ScheduleFile)?;
     Ok(read_plan(alloc, case, bytes.as_slice())?)
 }
 
 /// The case and the schedule with its cost, where the schedule keeps every rule.
-fn checked_input(case: Case, plan: Plan) -> Result<Input, TopFault>
+fn checked_case_and_schedule(case: Case, plan: Plan) -> Result<Input, TopFault>
     requires { HasPlanShape (market_of case) (schedules_of plan) }
     ensures answers { IsAnswer (IsChecked (market_of case) (schedules_of plan)) planned_of result }
     ensures planned { IfOk result (λ input. IsPlanned input) }
 {
-    refusals_are_exact();
+    feasible_exactly_without_broken_rule();
     let cost = check_plan(&case, &plan)?;
     Ok(Input { case, plan, cost })
 }
@@ -106,11 +106,11 @@ fn read_checked_plan<F: Shelf>(
     ensures shelf { IsLaterShelf F.told F.faults shelf.old shelf.new }
 {
     let plan = read_plan_file(alloc, shelf, name, &case)?;
-    checked_input(case, plan)
+    checked_case_and_schedule(case, plan)
 }
 
 /// The case and the feasible schedule of the files of these names, or their first fault.
-pub fn read_input<F: Shelf>(
+pub fn read_case_and_schedule<F: Shelf>(
     alloc: Global,
     shelf: &mut F,
     case_name: &str,
@@ -141,7 +141,7 @@ pub fn read_prices_file<F: Shelf>(
         ≡ (market_of case.now).periods) }
     ensures shelf { IsLaterShelf F.told F.faults shelf.old shelf.new }
 {
-    let bytes = read_bytes(alloc, shelf, name, FileKind::PricesFile)?;
+    let bytes = read_bytes_of_file(alloc, shelf, name, FileKind::PricesFile)?;
     Ok(read_prices(alloc, bytes.as_slice(), case.periods)?)
 }
 
@@ -158,7 +158,7 @@ pub fn read_report_file<F: Shelf>(
     ensures order { IfOk result (λ r. AreInOrder 0 (map told_of r.lines.items)) }
     ensures shelf { IsLaterShelf F.told F.faults shelf.old shelf.new }
 {
-    let bytes = read_bytes(alloc, shelf, name, FileKind::ReportFile)?;
+    let bytes = read_bytes_of_file(alloc, shelf, name, FileKind::ReportFile)?;
     Ok(read_report(alloc, bytes.as_slice())?)
 }
 
@@ -177,7 +177,7 @@ pub fn read_mixture_file<F: Shelf>(
     ensures feasible { IfOk result (λ x. IsMixture (market_of case.now) (mixture_of x)) }
     ensures shelf { IsLaterShelf F.told F.faults shelf.old shelf.new }
 {
-    let bytes = read_bytes(alloc, shelf, name, FileKind::MixtureFile)?;
+    let bytes = read_bytes_of_file(alloc, shelf, name, FileKind::MixtureFile)?;
     let mixture = read_mixture(alloc, case, bytes.as_slice())?;
     check_mixture(case, &mixture)?;
     Ok(mixture)

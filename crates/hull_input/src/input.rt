@@ -67,7 +67,7 @@ pub struct SearchInput {
 }
 
 /// So many proposals, units and periods multiplied.
-fn work_of(proposals: u32, units: u32, periods: u32) -> u64
+fn work_amount_of_run(proposals: u32, units: u32, periods: u32) -> u64
     requires units { units ≤ MOST_UNITS }
     requires periods { periods ≤ MOST_PERIODS }
     ensures { result ≡ proposals * units * periods }
@@ -76,14 +76,14 @@ fn work_of(proposals: u32, units: u32, periods: u32) -> u64
 }
 
 /// `TopFault::Work` where so many proposals of the case are above the limit of work.
-fn check_work(proposals: u32, case: &Case) -> Result<(), TopFault>
+fn check_work_limit(proposals: u32, case: &Case) -> Result<(), TopFault>
     ensures { MatchResult result (λ _. work_for proposals (market_of case.now) ≤ MOST_WORK)
         (λ fault. MOST_WORK < work_for proposals (market_of case.now)
         × (fault ≡ above_work proposals (market_of case.now))) }
 {
     let units = case.unit_count();
     let periods = case.periods;
-    if work_of(proposals, units, periods) > MOST_WORK {
+    if work_amount_of_run(proposals, units, periods) > MOST_WORK {
         return Err(TopFault::Work {
             proposals,
             units,
@@ -96,7 +96,12 @@ fn check_work(proposals: u32, case: &Case) -> Result<(), TopFault>
 /// The terms of an input's run with so many proposals, so many of them ahead, and so many callers;
 /// or `TopFault::Work` where proposals, units and periods multiplied are above `MOST_WORK`, a bid
 /// counted as a unit.
-pub fn within_work(input: Input, budget: u32, ahead: u32, callers: u32) -> Result<Terms, TopFault>
+pub fn run_terms_within_work_limit(
+    input: Input,
+    budget: u32,
+    ahead: u32,
+    callers: u32,
+) -> Result<Terms, TopFault>
     requires planned { IsPlanned input }
     requires size { IsRunSize budget ahead callers }
     ensures answers { IsAnswer (IsWithinWork budget (planned_of input)) planned_run result }
@@ -105,7 +110,7 @@ pub fn within_work(input: Input, budget: u32, ahead: u32, callers: u32) -> Resul
     ensures ahead { IfOk result (λ terms. terms.ahead ≡ ahead) }
     ensures callers { IfOk result (λ terms. terms.callers ≡ callers) }
 {
-    check_work(budget, &input.case)?;
+    check_work_limit(budget, &input.case)?;
     let Input { case, plan, cost } = input;
     Ok(Terms {
         case,
@@ -119,13 +124,13 @@ pub fn within_work(input: Input, budget: u32, ahead: u32, callers: u32) -> Resul
 
 /// The most rounds of a search over a case: as many as words say, or else as many as the limit of
 /// work allows, at most `DEFAULT_ROUNDS` and at least 1.
-fn rounds_for(rounds: Option<u32>, case: &Case) -> u32
+fn allowed_search_rounds(rounds: Option<u32>, case: &Case) -> u32
     ensures { result ≡ rounds_for rounds (market_of case.now) }
 {
     match rounds {
         Some(rounds) => rounds,
         None => {
-            let one_round = work_of(1, case.unit_count(), case.periods);
+            let one_round = work_amount_of_run(1, case.unit_count(), case.periods);
             let allowed = MOST_WORK / one_round.max(1);
             allowed.min(u64::from(DEFAULT_ROUNDS)).max(1) as u32
         }
@@ -134,7 +139,10 @@ fn rounds_for(rounds: Option<u32>, case: &Case) -> u32
 
 /// An input with the most rounds of a search over it, which words ask for; or `TopFault::Work` where
 /// rounds, units and periods multiplied are above `MOST_WORK`, a bid counted as a unit.
-pub fn within_rounds(input: Input, rounds: Option<u32>) -> Result<SearchInput, TopFault>
+pub fn search_input_within_work_limit(
+    input: Input,
+    rounds: Option<u32>,
+) -> Result<SearchInput, TopFault>
     requires planned { IsPlanned input }
     requires rounds { IfSome rounds IsRounds }
     ensures answers { IsAnswer (IsWithinRounds rounds (planned_of input)) planned_search result }
@@ -142,7 +150,7 @@ pub fn within_rounds(input: Input, rounds: Option<u32>) -> Result<SearchInput, T
     ensures rounds { IfOk result (λ search. search.rounds
         ≡ rounds_for rounds (market_of search.input.case)) }
 {
-    let rounds = rounds_for(rounds, &input.case);
-    check_work(rounds, &input.case)?;
+    let rounds = allowed_search_rounds(rounds, &input.case);
+    check_work_limit(rounds, &input.case)?;
     Ok(SearchInput { input, rounds })
 }

@@ -9,7 +9,10 @@ mod input;
 pub mod laws;
 
 pub use commands::{
-    read_audit_input, read_certify_input, read_convex_input, read_run_input, read_settle_input,
+    read_audit_input, read_certify_input, read_convex_input, read_pricing_run_input,
+    read_settle_input,
 };
-pub use files::read_input;
-pub use input::{Input, MixedInput, PricedInput, ReportedRun, SearchInput, within_work};
+pub use files::read_case_and_schedule;
+pub use input::{
+    Input, MixedInput, PricedInput, ReportedRun, SearchInput, run_terms_within_work_limit,
+};

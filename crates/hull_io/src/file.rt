@@ -24,7 +24,7 @@ pub enum ReadFault {
 }
 
 /// Room for what is asked for at once: on the heap, since a caller's stack may be small.
-fn room_for_a_piece(alloc: Global) -> Result<Vec<u8>, AllocError>
+fn make_read_buffer(alloc: Global) -> Result<Vec<u8>, AllocError>
     ensures { IfOk result (λ room. vec_len room ≡ PIECE) }
 {
     vec![in alloc; 0u8; PIECE]
@@ -45,7 +45,7 @@ pub fn read_whole<F: Shelf>(alloc: Global, shelf: &mut F, name: &str) -> Result<
     ensures later { (any : List ℕ) → F.faults shelf.old any ≤ F.faults shelf.new any }
     ensures told { F.told shelf.new ≡ F.told shelf.old }
 {
-    let Ok(mut room) = room_for_a_piece(alloc) else {
+    let Ok(mut room) = make_read_buffer(alloc) else {
         return Err(ReadFault::Memory);
     };
     let room = room.as_mut_slice();

@@ -43,13 +43,13 @@ impl<'a, R: Files> FileShelf<'a, R> {
     }
 
     /// Whether the file that was read last goes on with this read.
-    fn goes_on(&self, name: &str, offset: u64) -> bool {
+    fn is_next_read_of_open_file(&self, name: &str, offset: u64) -> bool {
         let is_next = self.open.is_some() && offset != 0 && offset == self.next;
         is_next && self.length == name.len() && self.path.starts_with(name.as_bytes())
     }
 
     /// Keeps the path of the open file.
-    fn keep_path(&mut self, name: &[u8])
+    fn store_path_of_open_file(&mut self, name: &[u8])
         requires { length name.now ≤ LONGEST }
         ensures { self.new.faults ≡ self.old.faults }
     {
@@ -62,7 +62,7 @@ impl<'a, R: Files> FileShelf<'a, R> {
         ensures { self.new.faults ≡ self.old.faults }
     {
         if name.len() <= LONGEST {
-            self.keep_path(name.as_bytes());
+            self.store_path_of_open_file(name.as_bytes());
             self.open = Some(file);
         }
     }
@@ -72,18 +72,18 @@ impl<'a, R: Files> FileShelf<'a, R> {
         ensures { self.new.faults ≡ self.old.faults }
     {
         self.open = None;
-        if let Ok(file) = open_at(self.rt, name, offset) {
+        if let Ok(file) = open_file_at_offset(self.rt, name, offset) {
             self.keep(file, name);
         }
     }
 
     /// Reads from the open file, where there is one.
-    fn read_open(&mut self, into: &mut [u8]) -> io::Result<usize>
+    fn read_from_open_file(&mut self, into: &mut [u8]) -> io::Result<usize>
         ensures within { IfOk result (λ n. n ≤ length into.old) }
         ensures same { self.new.faults ≡ self.old.faults }
     {
         match &mut self.open {
-            Some(file) => read_in_time(file, into),
+            Some(file) => read_with_retries(file, into),
             None => Err(io::Error::from(ErrorKind::NotFound)),
         }
     }
@@ -96,7 +96,7 @@ fn may_succeed_again(error: &io::Error) -> bool {
 }
 
 /// A read, made again for as long as it may yet go through.
-fn read_in_time<R: Read>(reader: &mut R, into: &mut [u8]) -> io::Result<usize>
+fn read_with_retries<R: Read>(reader: &mut R, into: &mut [u8]) -> io::Result<usize>
     ensures { IfOk result (λ n. n ≤ length into.old) }
 {
     for _ in 0..u64::MAX {
@@ -109,7 +109,7 @@ fn read_in_time<R: Read>(reader: &mut R, into: &mut [u8]) -> io::Result<usize>
 }
 
 /// A write, made again for as long as it may yet go through.
-fn write_in_time<W: Write>(writer: &mut W, piece: &[u8]) -> io::Result<usize>
+fn write_with_retries<W: Write>(writer: &mut W, piece: &[u8]) -> io::Result<usize>
     ensures { IfOk result (λ n. n ≤ length piece.now) }
 {
     for _ in 0..u64::MAX {
@@ -130,7 +130,7 @@ fn seek_offset<S: Seek>(file: &mut S, offset: u64) -> io::Result<()> {
 }
 
 /// Opens a file at an offset.
-fn open_at<R: Files>(rt: &R, name: &str, offset: u64) -> io::Result<R::File> {
+fn open_file_at_offset<R: Files>(rt: &R, name: &str, offset: u64) -> io::Result<R::File> {
     let mut file = fs::open(rt, name)?;
     seek_offset(&mut file, offset)?;
     Ok(file)
@@ -146,10 +146,10 @@ impl<'a, R: Files> Shelf for FileShelf<'a, R> {
     ghost last = { Some 0xffff_ffff_ffff_ffff };
 
     fn read(&mut self, name: &str, offset: u64, into: &mut [u8]) -> Result<usize, ReadFailed> {
-        if !self.goes_on(name, offset) {
+        if !self.is_next_read_of_open_file(name, offset) {
             self.open_file(name, offset);
         }
-        match self.read_open(into) {
+        match self.read_from_open_file(into) {
             Ok(n) => {
                 self.next = offset.saturating_add(n as u64);
                 Ok(n)
@@ -191,7 +191,7 @@ impl<W: Write + Drop> Sink for StdSink<W> {
     ghost last = { Some 0xffff_ffff_ffff_ffff };
 
     fn write(&mut self, piece: &[u8]) -> Result<usize, WriteFailed> {
-        match write_in_time(&mut self.out, piece) {
+        match write_with_retries(&mut self.out, piece) {
             Ok(n) => {
                 if n == 0 && !piece.is_empty() {
                     self.faults = self.faults.saturating_add(1);

@@ -9,8 +9,8 @@ ghost use Rattle.right_report.specs.RecordReport.{chosen_of, value_of};
 use board_core::Closed;
 use gap_proof::Certified;
 use hull_io::{Sink, WriteFailed};
-use report_form::{Part, write_form};
-use right_report::choice_of_record;
+use report_form::{Part, write_form_filled_with_parts};
+use right_report::chosen_proposal_of_finished_board;
 
 /// What the text tells: how many proposals there are, the number of the chosen one and its dual
 /// value, the radius round its prices, the rows from `first` to `last` whose mean gives the bound,
@@ -35,7 +35,7 @@ pub struct BoundLines {
 }
 
 // How far the bound is above the value.
-fn bound_distance(lines: &BoundLines) -> i128
+fn distance_from_value_to_bound(lines: &BoundLines) -> i128
     requires value { IsTold lines.now.value }
     requires bound { IsTold lines.now.bound }
     ensures { result ≡ lines.now.bound -ℤ lines.now.value }
@@ -54,8 +54,8 @@ pub fn write_bound_lines<S: Sink>(lines: &BoundLines, out: &mut S) -> Result<(),
         (bound_text lines.now.proposals lines.now.chosen lines.now.value
         lines.now.radius lines.now.first lines.now.last lines.now.bound) }
 {
-    let distance = bound_distance(lines);
-    write_form(
+    let distance = distance_from_value_to_bound(lines);
+    write_form_filled_with_parts(
         out,
         b"hull-bound 1\nproposals %\nchosen % value %\nradius %\ncertificate first % last %\n\
           bound %\ndistance %\nend\n",
@@ -88,7 +88,7 @@ pub fn write_bound<S: Sink>(
         (bound_text (length (own_rows closed.now)) (chosen_of closed.now) (value_of closed.now)
         (unsigned_abs radius) certified.now.first certified.now.last certified.now.bound) }
 {
-    let choice = choice_of_record(closed);
+    let choice = chosen_proposal_of_finished_board(closed);
     let lines = BoundLines {
         proposals: choice.proposals,
         chosen: choice.chosen,

@@ -4,7 +4,7 @@ ghost use Rattle.uc_model.specs.PlainCases.{market_of};
 ghost use Rattle.hull_report.specs.CheckText.{check_text};
 
 use hull_io::{Sink, WriteFailed};
-use report_form::{Part, write_form};
+use report_form::{Part, write_form_filled_with_parts};
 use uc_model::cases::Case;
 
 /// Writes that the schedule is feasible, and its `cost` in money.
@@ -16,7 +16,7 @@ pub fn write_check<S: Sink>(case: &Case, cost: i128, out: &mut S) -> Result<(), 
     let thermal = case.thermal.len();
     let flat = case.flat.len();
     let bids = case.bids.len();
-    write_form(
+    write_form_filled_with_parts(
         out,
         b"hull-check 1\nperiods % thermal % renewable %%\ncost %\nfeasible\n",
         &[

@@ -18,10 +18,10 @@ use gap_proof::{Entry, Mixture};
 use hull_io::{Sink, WriteFailed};
 use price_settle::Settled;
 use report_form::convex::{
-    SearchLines, write_mixture_entry, write_mixture_unit, write_search_before_units,
-    write_search_bound, write_search_totals,
+    SearchLines, write_convex_bound, write_convex_lines_before_units, write_convex_totals,
+    write_mixture_entry, write_mixture_unit,
 };
-use report_form::laws::texts_add_up;
+use report_form::laws::texts_written_in_turn_add_up;
 use uc_model::cases::Case;
 
 /// What a search for convex hull prices is told by, besides prices and mixture.
@@ -42,7 +42,7 @@ fn write_mixture_entries<S: Sink>(entries: &[Entry], out: &mut S) -> Result<(), 
     ensures { Writes S.held S.faults S.last out.old out.new result
         (flat_map share_text (map share_line (map entry_of entries.now))) }
 {
-    texts_add_up::<S>();
+    texts_written_in_turn_add_up::<S>();
     for entry in entries {
         write_mixture_entry(entry.weight, &entry.response, out)?;
     }
@@ -58,7 +58,7 @@ fn write_unit_mixture<S: Sink>(
     ensures { Writes S.held S.faults S.last out.old out.new result
         (mixture_text (mixture_line name.now (map entry_of entries.now))) }
 {
-    texts_add_up::<S>();
+    texts_written_in_turn_add_up::<S>();
     write_mixture_unit(name, entries.len() as u64, out)?;
     write_mixture_entries(entries, out)
 }
@@ -69,7 +69,7 @@ fn write_mixture<S: Sink>(case: &Case, mixture: &Mixture, out: &mut S) -> Result
     ensures { Writes S.held S.faults S.last out.old out.new result
         (flat_map mixture_text (mixture_lines (market_of case.now) (mixture_of mixture.now))) }
 {
-    texts_add_up::<S>();
+    texts_written_in_turn_add_up::<S>();
     for index in 0..case.thermal.len() {
         let name = case.thermal.get(index).name.as_str();
         let entries = mixture.thermal.get(index).as_slice();
@@ -99,13 +99,13 @@ fn write_convex_ending<S: Sink>(
         (least_paid cost bound)
         ) }
 {
-    texts_add_up::<S>();
+    texts_written_in_turn_add_up::<S>();
     let settlement = &settled.settlement;
     let value = settled.row.value;
     let gap = cost - value;
     let distance = bound - value;
     let least = least_uplift(cost, bound);
-    write_search_totals(
+    write_convex_totals(
         settlement.surplus,
         settlement.total,
         gap,
@@ -113,7 +113,7 @@ fn write_convex_ending<S: Sink>(
         out,
     )?;
     write_mixture(case, mixture, out)?;
-    write_search_bound(bound, distance, least, out)
+    write_convex_bound(bound, distance, least, out)
 }
 
 /// Writes the lines of `hull convex` for a plan that costs so much money, settled at the prices
@@ -138,7 +138,7 @@ pub fn write_convex<S: Sink>(
         (convex_text (convex_of (market_of case.now) cost (settled_of settled.now)
         (mixture_of mixture.now) numbers.within numbers.rounds numbers.made numbers.bound)) }
 {
-    texts_add_up::<S>();
+    texts_written_in_turn_add_up::<S>();
     let lines = SearchLines {
         periods: case.periods,
         units: case.unit_count(),
@@ -147,7 +147,7 @@ pub fn write_convex<S: Sink>(
         rounds: numbers.rounds,
         made: numbers.made,
     };
-    write_search_before_units(&lines, &settled.row, out)?;
+    write_convex_lines_before_units(&lines, &settled.row, out)?;
     write_settled_units(case, settled, out)?;
     write_convex_ending(case, cost, settled, mixture, numbers.bound, out)
 }

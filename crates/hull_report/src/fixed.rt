@@ -8,13 +8,13 @@ ghost use Rattle.hull_report.specs.FixedText.{sides_text, paid_text, paid_line};
 ghost use Rattle.hull_report.specs.FixedText.{paid_start, all_paid_text, sums_text, fixed_text};
 
 use hull_io::{Sink, WriteFailed};
-use report_form::laws::texts_add_up;
-use report_form::{Part, write_form};
+use report_form::laws::texts_written_in_turn_add_up;
+use report_form::{Part, write_form_filled_with_parts};
 use right_report::Side;
 use uc_model::cases::{Case, UnitRef};
 
 // Writes what each run chose, and the prices.
-fn write_fixed_sides<'a, S: Sink>(
+fn write_fixed_prices_of_both_runs<'a, S: Sink>(
     hull: &'a Side,
     fixed: &'a Side,
     out: &mut S,
@@ -26,7 +26,7 @@ fn write_fixed_sides<'a, S: Sink>(
     let hull_reserve = hull.prices.reserve.as_slice();
     let fixed_energy = fixed.prices.energy.as_slice();
     let fixed_reserve = fixed.prices.reserve.as_slice();
-    write_form(
+    write_form_filled_with_parts(
         out,
         b"hull-fixed 1\nhull proposals % chosen % value %\nfixed proposals % chosen % value %\n\
           hull energy%\nhull reserve%\nfixed energy%\nfixed reserve%\n",
@@ -53,7 +53,7 @@ struct Paid {
 }
 
 // What the unit of a number is paid.
-fn payment_in_both_runs(hull: &Side, fixed: &Side, number: usize) -> Paid
+fn payments_for_fixed_report(hull: &Side, fixed: &Side, number: usize) -> Paid
     requires hull { number < length hull.now.settlement.payments.items }
     requires fixed { number < length fixed.now.settlement.payments.items }
     ensures { (name : List ℕ) → record {
@@ -69,7 +69,7 @@ fn payment_in_both_runs(hull: &Side, fixed: &Side, number: usize) -> Paid
 }
 
 // What the line of a unit begins with.
-fn start_of_unit_line(unit: UnitRef<'_>) -> &'static [u8]
+fn fixed_line_prefix_of_unit(unit: UnitRef<'_>) -> &'static [u8]
     ensures { result.now ≡ paid_start (unit_of unit.entry) }
 {
     match unit {
@@ -93,7 +93,7 @@ fn write_fixed_payment<'a, S: Sink>(
     })) }
 {
     let bytes = name.as_bytes();
-    write_form(
+    write_form_filled_with_parts(
         out,
         b"%% hull % fixed %\n",
         &[
@@ -117,11 +117,11 @@ fn write_fixed_payments<S: Sink>(
     ensures { Writes S.held S.faults S.last out.old out.new result
         (all_paid_text (market_of case.now) (told_of hull.now) (told_of fixed.now)) }
 {
-    texts_add_up::<S>();
+    texts_written_in_turn_add_up::<S>();
     for number in 0..case.unit_count() as usize {
-        let paid = payment_in_both_runs(hull, fixed, number);
+        let paid = payments_for_fixed_report(hull, fixed, number);
         let named = case.unit_at(number);
-        write_fixed_payment(start_of_unit_line(named.unit), named.name, paid, out)?;
+        write_fixed_payment(fixed_line_prefix_of_unit(named.unit), named.name, paid, out)?;
     }
     Ok(())
 }
@@ -138,7 +138,7 @@ fn write_fixed_sums<S: Sink>(
 {
     let hull = &hull.settlement;
     let fixed = &fixed.settlement;
-    write_form(
+    write_form_filled_with_parts(
         out,
         b"payments hull % fixed %\nsurplus hull % fixed %\ncost %\nend\n",
         &[
@@ -168,8 +168,8 @@ pub fn write_fixed<S: Sink>(
     ensures { Writes S.held S.faults S.last out.old out.new result
         (fixed_text (market_of case.now) cost (told_of hull.now) (told_of fixed.now)) }
 {
-    texts_add_up::<S>();
-    write_fixed_sides(hull, fixed, out)?;
+    texts_written_in_turn_add_up::<S>();
+    write_fixed_prices_of_both_runs(hull, fixed, out)?;
     write_fixed_payments(case, hull, fixed, out)?;
     write_fixed_sums(hull, fixed, cost, out)
 }

@@ -15,12 +15,12 @@ ghost use Rattle.hull_report.specs.TryText.{try_text};
 use board_core::Closed;
 use hull_io::{Sink, WriteFailed};
 use price_settle::Settlement;
-use report_form::laws::texts_add_up;
+use report_form::laws::texts_written_in_turn_add_up;
 use report_form::report::{
-    Head, Owed, write_chosen, write_report_foot, write_report_head, write_rows, write_unit,
+    Head, Owed, write_all_proposals, write_chosen, write_report_foot, write_report_head, write_unit,
 };
-use report_form::{Part, write_form};
-use right_report::{Choice, choice_of_record};
+use report_form::{Part, write_form_filled_with_parts};
+use right_report::{Choice, chosen_proposal_of_finished_board};
 use uc_model::units::Answered;
 
 // The numbers of the first lines.
@@ -44,7 +44,11 @@ fn report_head_of(closed: &Closed, proposals: u32) -> Head
 }
 
 // Writes the lines up to the chosen value.
-fn write_proposals<S: Sink>(closed: &Closed, choice: Choice, out: &mut S) -> Result<(), WriteFailed>
+fn write_head_and_proposals<S: Sink>(
+    closed: &Closed,
+    choice: Choice,
+    out: &mut S,
+) -> Result<(), WriteFailed>
     requires proposals { choice.proposals ≡ length (own_rows closed.now) }
     requires most { choice.proposals ≤ MOST_PROPOSALS }
     ensures { Writes S.held S.faults S.last out.old out.new result (
@@ -54,15 +58,15 @@ fn write_proposals<S: Sink>(closed: &Closed, choice: Choice, out: &mut S) -> Res
         ++ chosen_text choice.chosen choice.value
         ) }
 {
-    texts_add_up::<S>();
+    texts_written_in_turn_add_up::<S>();
     let head = report_head_of(closed, choice.proposals);
     write_report_head(&head, out)?;
-    write_rows(closed.rows(), out)?;
+    write_all_proposals(closed.rows(), out)?;
     write_chosen(choice.chosen, choice.value, out)
 }
 
 // Leaves a unit's response to a proposal in the buffer, and gives what it is owed.
-fn take_unit_line(
+fn fetch_unit_response_and_payment(
     closed: &Closed,
     settlement: &Settlement,
     proposal: u32,
@@ -78,7 +82,7 @@ fn take_unit_line(
     ensures horizon { length (schedule_of buffer.new.response).on
         ≡ closed.now.setup.market.periods }
 {
-    closed.answer_into(proposal, number, buffer);
+    closed.copy_answer_out(proposal, number, buffer);
     Owed {
         earned: buffer.earned,
         scheduled: *settlement.scheduled.get(number as usize),
@@ -109,10 +113,10 @@ fn write_unit_lines<S: Sink>(
     ensures horizon { length (schedule_of buffer.new.response).on
         ≡ closed.now.setup.market.periods }
 {
-    texts_add_up::<S>();
+    texts_written_in_turn_add_up::<S>();
     let case = closed.case();
     for number in 0..case.unit_count() {
-        let owed = take_unit_line(closed, settlement, proposal, number, buffer);
+        let owed = fetch_unit_response_and_payment(closed, settlement, proposal, number, buffer);
         write_unit(case.unit_at(number as usize), &owed, &buffer.response, out)?;
     }
     Ok(())
@@ -140,9 +144,9 @@ pub fn write_report<S: Sink>(
     ensures horizon { length (schedule_of buffer.new.response).on
         ≡ closed.now.setup.market.periods }
 {
-    texts_add_up::<S>();
-    let choice = choice_of_record(closed);
-    write_proposals(closed, choice, out)?;
+    texts_written_in_turn_add_up::<S>();
+    let choice = chosen_proposal_of_finished_board(closed);
+    write_head_and_proposals(closed, choice, out)?;
     write_unit_lines(closed, settlement, choice.chosen, buffer, out)?;
     write_report_foot(settlement.surplus, settlement.total, choice.gap, out)
 }
@@ -164,8 +168,8 @@ pub fn write_try<S: Sink>(
     let thermal = case.thermal.len();
     let flat = case.flat.len();
     let cost = closed.cost();
-    let choice = choice_of_record(closed);
-    write_form(
+    let choice = chosen_proposal_of_finished_board(closed);
+    write_form_filled_with_parts(
         out,
         b"hull-try 1\nnumber %\nperiods % thermal % renewable %\nproposals %\nchosen % value %\n\
           cost %\npayments %\nsurplus %\ngap %\n",

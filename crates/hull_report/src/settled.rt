@@ -15,7 +15,7 @@ ghost use Rattle.hull_report.specs.SettledText.{settled_line, settlement_of};
 
 use hull_io::{Sink, WriteFailed};
 use price_settle::Settled;
-use report_form::laws::texts_add_up;
+use report_form::laws::texts_written_in_turn_add_up;
 use report_form::report::{Owed, write_report_foot, write_unit};
 use report_form::settlement::write_settlement_before_units;
 use uc_model::cases::Case;
@@ -29,7 +29,7 @@ struct Line<'a> {
 }
 
 // What is told of the unit of a number.
-fn settled_line_at(settled: &Settled, number: usize) -> Line<'_>
+fn settled_line_of_unit(settled: &Settled, number: usize) -> Line<'_>
     requires responses { number < length (settled_of settled.now).responses }
     requires earned { number < length (settled_of settled.now).earned }
     requires scheduled { number < length (settled_of settled.now).scheduled }
@@ -63,9 +63,9 @@ pub(crate) fn write_settled_units<S: Sink>(
         (bid_names (market_of case.now)))
         ) }
 {
-    texts_add_up::<S>();
+    texts_written_in_turn_add_up::<S>();
     for number in 0..case.unit_count() as usize {
-        let line = settled_line_at(settled, number);
+        let line = settled_line_of_unit(settled, number);
         write_unit(case.unit_at(number), &line.owed, line.response, out)?;
     }
     Ok(())
@@ -88,7 +88,7 @@ pub fn write_settlement<S: Sink>(
     ensures { Writes S.held S.faults S.last out.old out.new result
         (settlement_text (settlement_of (market_of case.now) cost (settled_of settled.now))) }
 {
-    texts_add_up::<S>();
+    texts_written_in_turn_add_up::<S>();
     let gap = cost - settled.row.value;
     let settlement = &settled.settlement;
     write_settlement_before_units(case.periods, case.unit_count(), cost, &settled.row, out)?;

@@ -39,7 +39,7 @@ pub struct Given<'a> {
 }
 
 /// The number in the range, which is within 32 bits.
-fn small_number(text: &str, least: u32, most: u32) -> Option<u32>
+fn u32_number_in_range(text: &str, least: u32, most: u32) -> Option<u32>
     ensures { result ≡ number_in least most text.now }
 {
     match number_in_range(text, u64::from(least), u64::from(most)) {
@@ -70,7 +70,7 @@ impl<'a> Given<'a> {
     }
 
     /// With what the text says for the option: none where it is no number within the range.
-    fn with(self, option: OptionKind, text: &'a str) -> Given<'a>
+    fn with_option_text(self, option: OptionKind, text: &'a str) -> Given<'a>
         ensures { found_so_far result ≡ put option text.now (found_so_far self.entry) }
     {
         let mut given = self;
@@ -80,12 +80,12 @@ impl<'a> Given<'a> {
             OptionKind::Report => given.report_name = Some(text),
             OptionKind::Prices => given.prices_name = Some(text),
             OptionKind::Mixture => given.mixture_name = Some(text),
-            OptionKind::Proposals => given.proposals = small_number(text, 1, MOST_PROPOSALS),
-            OptionKind::Workers => given.workers = small_number(text, 1, MOST_WORKERS),
-            OptionKind::Ahead => given.ahead = small_number(text, 1, MOST_AHEAD),
-            OptionKind::Radius => given.radius = small_number(text, 0, MOST_RADIUS),
+            OptionKind::Proposals => given.proposals = u32_number_in_range(text, 1, MOST_PROPOSALS),
+            OptionKind::Workers => given.workers = u32_number_in_range(text, 1, MOST_WORKERS),
+            OptionKind::Ahead => given.ahead = u32_number_in_range(text, 1, MOST_AHEAD),
+            OptionKind::Radius => given.radius = u32_number_in_range(text, 0, MOST_RADIUS),
             OptionKind::Within => given.within = number_in_range(text, 0, MOST_WITHIN),
-            OptionKind::Rounds => given.rounds = small_number(text, 1, MOST_ROUNDS),
+            OptionKind::Rounds => given.rounds = u32_number_in_range(text, 1, MOST_ROUNDS),
         }
         given
     }
@@ -113,7 +113,7 @@ impl<'a> Given<'a> {
     pub fn set(self, option: OptionKind, text: &'a str) -> Result<Given<'a>, WordCode>
         ensures { seen found_so_far result ≡ set_to option text.now (found_so_far self.entry) }
     {
-        let given = self.with(option, text);
+        let given = self.with_option_text(option, text);
         if given.is_set(option) {
             Ok(given)
         } else {

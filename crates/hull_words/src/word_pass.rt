@@ -50,7 +50,7 @@ fn read_option<'a>(
 }
 
 /// Takes a word that is neither an option nor a value.
-fn read_number<'a>(
+fn read_case_number_of_try<'a>(
     command: CommandKind,
     given: Given<'a>,
     word: &str,
@@ -74,7 +74,7 @@ fn read_number<'a>(
 
 /// Takes a word that is no value.
 #[tactic(auto, unfolding(crate::specs::WordPass::word_step, crate::specs::Words::value_at))]
-fn read_word<'a>(
+fn read_option_or_number_word<'a>(
     command: CommandKind,
     given: Given<'a>,
     word: &'a str,
@@ -85,7 +85,7 @@ fn read_word<'a>(
 {
     match option_parts(word) {
         Some((name, own_value)) => read_option(command, given, name, own_value.or(next)),
-        None => read_number(command, given, word),
+        None => read_case_number_of_try(command, given, word),
     }
 }
 
@@ -108,7 +108,7 @@ fn word_at(words: &[String], index: usize) -> Option<&str>
 }
 
 /// Goes past one word, and says whether the next one is its value.
-fn pass_word<'a>(
+fn read_word_at_index<'a>(
     command: CommandKind,
     words: &'a [String],
     index: usize,
@@ -130,7 +130,7 @@ fn pass_word<'a>(
         return Ok((given, false));
     }
     let word = words[index].as_str();
-    match read_word(command, given, word, word_at(words, index + 1)) {
+    match read_option_or_number_word(command, given, word, word_at(words, index + 1)) {
         Ok(read) => Ok((read, takes_next_word(word))),
         Err(code) => Err(WordFault {
             code,
@@ -140,14 +140,17 @@ fn pass_word<'a>(
 }
 
 /// The values that the words after the command give.
-fn read_later<'a>(command: CommandKind, words: &'a [String]) -> Result<Given<'a>, WordFault>
+fn read_words_after_command<'a>(
+    command: CommandKind,
+    words: &'a [String],
+) -> Result<Given<'a>, WordFault>
     ensures read { seen found_so_far result ≡ read_from command 2 false (texts words.now) nothing }
     ensures few { OnOk result (length words.now ≤ 24) }
 {
     let mut given = Given::nothing();
     let mut is_value = false;
     for index in 0..words.len() {
-        (given, is_value) = pass_word(command, words, index, is_value, given)?;
+        (given, is_value) = read_word_at_index(command, words, index, is_value, given)?;
     }
     Ok(given)
 }
@@ -182,7 +185,7 @@ fn case_and_schedule_words(
     })
 }
 
-fn run_words(alloc: Global, given: &Given, count: u32) -> Result<PriceWords, WordError>
+fn price_run_words(alloc: Global, given: &Given, count: u32) -> Result<PriceWords, WordError>
     ensures { Gives price_asked result (or_missing (price_from (found_so_far given.now)) count) }
 {
     let CheckWords {
@@ -225,7 +228,7 @@ fn bound_command(alloc: Global, given: &Given, count: u32) -> Result<Command, Wo
         (or_missing (asked_from CommandKind.Bound (found_so_far given.now)) count) }
 {
     Ok(Command::Bound(BoundWords {
-        run: run_words(alloc, given, count)?,
+        run: price_run_words(alloc, given, count)?,
         radius: radius_of(given),
     }))
 }
@@ -306,11 +309,11 @@ fn command_of_values(
     ensures { Gives asked result (or_missing (asked_from command (found_so_far given.now)) count) }
 {
     match command {
-        CommandKind::Price => Ok(Command::Price(run_words(alloc, given, count)?)),
+        CommandKind::Price => Ok(Command::Price(price_run_words(alloc, given, count)?)),
         CommandKind::Check => Ok(Command::Check(case_and_schedule_words(alloc, given, count)?)),
         CommandKind::Try => try_command(given, count),
         CommandKind::Bound => bound_command(alloc, given, count),
-        CommandKind::Fixed => Ok(Command::Fixed(run_words(alloc, given, count)?)),
+        CommandKind::Fixed => Ok(Command::Fixed(price_run_words(alloc, given, count)?)),
         CommandKind::Audit => audit_command(alloc, given, count),
         CommandKind::Settle => Ok(Command::Settle(settle_words(alloc, given, count)?)),
         CommandKind::Certify => certify_command(alloc, given, count),
@@ -337,6 +340,6 @@ pub fn read_words(alloc: Global, words: &[String]) -> Result<Command, WordError>
             position: 1,
         }));
     };
-    let given = read_later(command, later)?;
+    let given = read_words_after_command(command, later)?;
     command_of_values(alloc, command, &given, words.len() as u32)
 }

@@ -4,7 +4,8 @@ use Rattle.law_outcome.proofs.Common.{true, false, List, [], ◌∷◌, Option, 
 use Rattle.law_outcome.proofs.Common.{◌∙◌, subst, arith, length, nat_lt, if◌then◌else◌, ltb-true, MOST_BYTES, Asked}
 use Rattle.law_outcome.proofs.Common.{AuditAsked, audit, WordFault, status_of, fault_line, IsFlatLine, HasForm}
 use Rattle.law_outcome.proofs.Common.{TextDeterminesReport, RightReportHasForm, ReportPaymentsMakeUpTheGap}
-use Rattle.law_outcome.proofs.Common.{RunPricesAreWithin, NothingIsPaidBack, UnitLine, Report, report_text, CaseFile}
+use Rattle.law_outcome.proofs.Common.{RunPricesAreWithin, PaymentsAreAtLeastZero, UnitLine, Report, report_text}
+use Rattle.law_outcome.proofs.Common.{CaseFile}
 use Rattle.law_outcome.proofs.Common.{ScheduleFile, ReportFile, TopFault, TooBig, Unfit, End, Done, Cut, Refused, Reads}
 use Rattle.law_outcome.proofs.Common.{bytes_of, IsInput, IsWithinWork, IsReportFile, IsAudit, PlannedCase, command_for}
 use Rattle.law_outcome.proofs.Common.{IsReadOf, AreReads, with_report, HasText, Ends, status_at, OverReads}
@@ -40,7 +41,7 @@ within_has_form r h = record {
 -- ---- the promise
 
 module _ (got : BytesAreThoseRead) (text_read : ReportBytesAreItsText) (gap : ReportPaymentsMakeUpTheGap)
-    (priced : RunPricesAreWithin) (nothing : NothingIsPaidBack) (determined : TextDeterminesReport)
+    (priced : RunPricesAreWithin) (nothing : PaymentsAreAtLeastZero) (determined : TextDeterminesReport)
     (has_form : RightReportHasForm) (a : AuditAsked) (told : List ℕ → Option (List ℕ))
     (rose gained : List ℕ → Type 0) where
   audited_parts : (reads : Reads) (i : PlannedCase) → (command_for (Ok (audit a))).IsDue reads (Ok i) →
@@ -244,7 +245,7 @@ module _ (got : BytesAreThoseRead) (text_read : ReportBytesAreItsText) (determin
 -- ---- both
 
 module _ (got : BytesAreThoseRead) (text_read : ReportBytesAreItsText) (gap : ReportPaymentsMakeUpTheGap)
-    (priced : RunPricesAreWithin) (nothing : NothingIsPaidBack) (determined : TextDeterminesReport)
+    (priced : RunPricesAreWithin) (nothing : PaymentsAreAtLeastZero) (determined : TextDeterminesReport)
     (has_form : RightReportHasForm) (in_form : PrintedReportsAreInForm) (a : AuditAsked)
     (told : List ℕ → Option (List ℕ)) (rose gained short : List ℕ → Type 0) where
   abbrev Promise : Result Asked WordFault → ℕ → Type 0

@@ -3,7 +3,7 @@ use Rattle.law_outcome.proofs.Common.{◌≡◌, ℕ, ◌-◌, ◌≤◌, List, 
 use Rattle.law_outcome.proofs.Common.{slice_get_within, Proposal, chosen_number, plan_cost, Asked, BoundAsked, bound}
 use Rattle.law_outcome.proofs.Common.{WordFault, words_of, OneIsChosen, End, Done, Cut, Refused, Reads, PlannedCase}
 use Rattle.law_outcome.proofs.Common.{command_for, IsBoundText, AreReads, Ends, status_at, OverReads, IsBoundPromised}
-use Rattle.law_outcome.proofs.Common.{WordsHaveSizes}
+use Rattle.law_outcome.proofs.Common.{WordsHaveNumbersInRange}
 use Rattle.law_parts.specs.BoundLaws.{RunBoundsHold}
 use Rattle.hull_command.specs.Sizes.{HasSizes}
 use Rattle.law_outcome.proofs.OutcomeLaws.{status_within}
@@ -17,7 +17,7 @@ chosen_low one rows chosen row is at =
     let number = is ∙ k.2 in
     omega (arith, number)
 
-module _ (words_have_sizes : WordsHaveSizes) (holds : RunBoundsHold) (one : OneIsChosen) where
+module _ (words_have_sizes : WordsHaveNumbersInRange) (holds : RunBoundsHold) (one : OneIsChosen) where
   promised : (a : BoundAsked) → HasSizes (bound a) → (i : PlannedCase) (gained : List ℕ → Type 0) (text : List ℕ) →
       IsBoundText a.run.proposals a.run.ahead a.radius i text → gained text
       → IsBoundPromised a i gained

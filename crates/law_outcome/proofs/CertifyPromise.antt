@@ -5,14 +5,15 @@ use Rattle.law_outcome.proofs.Common.{CertifyAsked, certify, WordFault, status_o
 use Rattle.law_outcome.proofs.Common.{PricesFile, MixtureFile, TopFault, End, Done, Cut, Refused, Reads, bytes_of, Then}
 use Rattle.law_outcome.proofs.Common.{IsInput, IsPriced, IsMixtureFile, PlannedCase, command_for, IsReadOf, AreReads}
 use Rattle.law_outcome.proofs.Common.{with_mixture, HasText, Ends, status_at, OverReads, HasNoPrices, IsCertifyPromised}
-use Rattle.law_outcome.proofs.Common.{HasNoMixture, WordsHaveSizes, words_of, BytesAreThoseRead, SettlementsAddUp}
+use Rattle.law_outcome.proofs.Common.{HasNoMixture, WordsHaveNumbersInRange, words_of, BytesAreThoseRead}
+use Rattle.law_outcome.proofs.Common.{SettlementsAddUp}
 use Rattle.law_outcome.proofs.Common.{mixture_fault, MixtureLists, IsMixture}
 use Rattle.law_parts.specs.BoundLaws.{ArePriced}
 use Rattle.uc_text.specs.Files.{text, value}
 use Rattle.law_parts.specs.CaseLaws.{CasesAreWithin}
-use Rattle.uc_mixture.specs.Laws.{OneMixture}
+use Rattle.uc_mixture.specs.Laws.{MixtureFileHasOneValueOrOneFault}
 use Rattle.uc_mixture.specs.MixtureFiles.{IsMixtureFileOf}
-use Rattle.uc_prices.specs.Laws.{OnePrices, HaveForm, PricesHaveForm}
+use Rattle.uc_prices.specs.Laws.{PricesFileHasOneValueOrOneFault, HaveForm, PricesArePerPeriodAndWithinLimits}
 use Rattle.law_parts.specs.MixtureLaws.{MixtureBoundHolds, MixtureBoundReachesCentre, PaymentsReachLeast}
 use Rattle.gap_proof.specs.MixtureLaws.{MixturesBreakNoRule}
 use Rattle.gap_proof.specs.MixtureBound.{mixture_bound}
@@ -69,7 +70,7 @@ priced_of m bytes π asks = record {
 -- what holds of cases, prices, settlements and mixtures
 pub record Holds : Type 0 where
   pub within : CasesAreWithin
-  pub form : PricesHaveForm
+  pub form : PricesArePerPeriodAndWithinLimits
   pub add_up : SettlementsAddUp
   pub bound : MixtureBoundHolds
   pub reaches : MixtureBoundReachesCentre
@@ -125,7 +126,8 @@ module _ (got : BytesAreThoseRead) (holds : Holds) (a : CertifyAsked) (wide : po
 
 -- ---- the refusal of a mixture
 
-module _ (got : BytesAreThoseRead) (one : OneMixture) (unrefused : MixturesBreakNoRule) (a : CertifyAsked)
+module _ (got : BytesAreThoseRead) (one : MixtureFileHasOneValueOrOneFault) (unrefused : MixturesBreakNoRule)
+    (a : CertifyAsked)
     (gained short : List ℕ → Type 0) (reads : Reads) (f : TopFault)
     (lines : gained (fault_line f) ⊎ short (fault_line f))
     (due_f : (command_for (Ok (certify a))).IsDue reads (Err f)) where
@@ -242,7 +244,8 @@ refused_prices a reads f nine (Err g, input, e) = (Err g, input, e)
 
 -- ---- all three
 
-module _ (got : BytesAreThoseRead) (sizes : WordsHaveSizes) (holds : Holds) (one_prices : OnePrices) (one : OneMixture)
+module _ (got : BytesAreThoseRead) (sizes : WordsHaveNumbersInRange) (holds : Holds)
+    (one_prices : PricesFileHasOneValueOrOneFault) (one : MixtureFileHasOneValueOrOneFault)
     (unrefused : MixturesBreakNoRule) (a : CertifyAsked) (told : List ℕ → Option (List ℕ))
     (rose gained short : List ℕ → Type 0) where
   abbrev Promise : Result Asked WordFault → ℕ → Type 0

@@ -19,7 +19,7 @@ pub use Rattle.hull_input.specs.Steps.{IsPrices, IsPricesFile, IsPriced, prices_
 pub use Rattle.hull_input.specs.Steps.{IsMixtureFile, HasMixture, IsCertifiable, mixture_fault, rounds_for}
 pub use Rattle.hull_input.specs.Steps.{IsWithinRounds}
 pub use Rattle.hull_command.specs.FurtherSteps.{IsMade, IsJudged, IsAudit}
-pub use Rattle.hull_command.specs.Laws.{WordsHaveSizes}
+pub use Rattle.hull_command.specs.Laws.{WordsHaveNumbersInRange}
 pub use Rattle.hull_command.specs.Outcome.{command_for, HasText, Ends, status_at, IsBoundText, IsFixedText}
 pub use Rattle.hull_command.specs.Outcome.{IsReportText, IsAuditText, IsSettlementText, IsCertificateText, Command}
 pub use Rattle.hull_command.specs.declared.end.End.{End}
@@ -28,7 +28,7 @@ pub use Rattle.plain_lists.specs.declared.limits.TheConstants.{MOST_BYTES}
 pub use Rattle.hull_fault.specs.FaultLines.{status_of, fault_line}
 pub use Rattle.right_report.specs.Laws.{RightReportHasForm, ReportPaymentsMakeUpTheGap, OneIsChosen, OneRightReport}
 pub use Rattle.right_report.specs.RightReport.{unit_lines, IsRightReport}
-pub use Rattle.right_report.specs.RightSide.{SidePaymentsMakeUpTheGap, OneRightSide}
+pub use Rattle.right_report.specs.RightSide.{PaymentsOfFixedReportSideMakeUpTheGap, OneRightSide}
 pub use Rattle.hull_fault.specs.declared.fault.FileKind.TheVariants.{CaseFile, ScheduleFile, ReportFile, PricesFile}
 pub use Rattle.hull_fault.specs.declared.fault.FileKind.TheVariants.{MixtureFile}
 pub use Rattle.hull_fault.specs.declared.fault.TopFault.{TopFault}
@@ -51,9 +51,9 @@ pub use Rattle.law_outcome.specs.Laws.{word_fault, FollowsFromWords, IsPromised,
 pub use Rattle.law_outcome.specs.Laws.{IsCertifyPromised, HasNoMixture, AskForPrices, AreAlike, with_workers}
 pub use Rattle.law_outcome.specs.Laws.{TellTheSame, TextFollows, IsConvexPromised}
 pub use Rattle.uc_model.specs.Data.{Market, PriceLists, Schedule, unit_count}
-pub use Rattle.price_settle.specs.Laws.{OneSettlement, SettlementsAddUp}
+pub use Rattle.price_settle.specs.Laws.{PlanHasAtMostOneSettlement, SettlementsAddUp}
 pub use Rattle.price_settle.specs.Settled.{Settled, IsSettledAt}
-pub use Rattle.uc_model.specs.Laws.{NothingIsPaidBack}
+pub use Rattle.uc_model.specs.Laws.{PaymentsAreAtLeastZero}
 pub use Rattle.uc_model.specs.PriceRule.{Proposal, chosen_number}
 pub use Rattle.plain_lists.specs.Sums.{int_at}
 pub use Rattle.uc_model.specs.Systems.{plan_cost, IsFeasiblePlan}

@@ -1,8 +1,10 @@
 -- What is promised of the two runs of `hull fixed`.
 use Rattle.law_outcome.proofs.Common.{◌≡◌, ℕ, ◌-◌, ◌≤◌, List, Option, Result, Ok, refl, sym, ◌∙◌, subst, arith, pos}
-use Rattle.law_outcome.proofs.Common.{Market, Schedule, RunPricesAreWithin, NothingIsPaidBack, WordsHaveSizes}
+use Rattle.law_outcome.proofs.Common.{Market, Schedule, RunPricesAreWithin, PaymentsAreAtLeastZero}
+use Rattle.law_outcome.proofs.Common.{WordsHaveNumbersInRange}
 use Rattle.law_outcome.proofs.Common.{IsFeasiblePlan, plan_cost, fixed_market, Asked, PriceAsked, fixed, words_of}
-use Rattle.law_outcome.proofs.Common.{WordFault, SidePaymentsMakeUpTheGap, End, done_whole, Cut, Refused, OverReads}
+use Rattle.law_outcome.proofs.Common.{WordFault, PaymentsOfFixedReportSideMakeUpTheGap, End, done_whole, Cut, Refused}
+use Rattle.law_outcome.proofs.Common.{OverReads}
 use Rattle.law_outcome.proofs.Common.{IsFixedPromised, command_for, IsFixedText, AreReads, Ends, status_at, Reads}
 use Rattle.law_outcome.proofs.Common.{PlannedCase}
 use Rattle.uc_model.specs.Laws.{ReserveFrom0}
@@ -12,7 +14,7 @@ use Rattle.law_outcome.specs.Laws.{PaysFrom0}
 use Rattle.law_outcome.proofs.OutcomeLaws.{status_within, accepted_is_feasible}
 
 -- a right side of a run over the same periods
-pays_from_0 : RunPricesAreWithin → NothingIsPaidBack →
+pays_from_0 : RunPricesAreWithin → PaymentsAreAtLeastZero →
     (given ran : Market) (plan : List Schedule) (budget ahead : ℕ) (s : ToldSide) → 1 ≤ ahead →
     ran.periods ≡ given.periods → IsFeasiblePlan given plan → IsRightSide given ran plan budget ahead s → PaysFrom0 s
 pays_from_0 priced nothing given ran plan budget ahead s some same feasible right =
@@ -29,8 +31,9 @@ pays_from_0 priced nothing given ran plan budget ahead s some same feasible righ
     (subst (ReserveFrom0 given) (sym right.prices_are) asks) right.settled in
     record { payments = paid.0; surplus = paid.1 }
 
-module _ (words_have_sizes : WordsHaveSizes) (made_up : SidePaymentsMakeUpTheGap) (priced : RunPricesAreWithin)
-    (nothing : NothingIsPaidBack) where
+module _ (words_have_sizes : WordsHaveNumbersInRange) (made_up : PaymentsOfFixedReportSideMakeUpTheGap)
+    (priced : RunPricesAreWithin)
+    (nothing : PaymentsAreAtLeastZero) where
   promised : (a : PriceAsked) (i : PlannedCase) (gained : List ℕ → Type 0) (text : List ℕ) → 1 ≤ a.ahead →
       IsFeasiblePlan i.market i.plan → i.cost ≡ plan_cost i.market i.plan → IsFixedText a.proposals a.ahead i text →
       gained text → IsFixedPromised a i gained

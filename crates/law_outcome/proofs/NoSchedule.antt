@@ -9,12 +9,12 @@ use Rattle.law_outcome.proofs.Common.{done_whole, Cut, Refused, Reads, PlannedCa
 use Rattle.law_outcome.proofs.Common.{IsPlanFile, IsChecked, IsInput, status_of, fault_line, command_for, AreReads}
 use Rattle.law_outcome.proofs.Common.{Ends, status_at, OverReads}
 use Rattle.uc_text.specs.Files.{text, value}
-use Rattle.uc_case.specs.Laws.{OneCase}
+use Rattle.uc_case.specs.Laws.{CaseFileHasOneValueOrOneFault}
 use Rattle.law_parts.specs.CaseLaws.{CasesAreWithin}
-use Rattle.uc_model.specs.Laws.{RefusalsAreExact}
+use Rattle.uc_model.specs.Laws.{FeasibleExactlyWithoutBrokenRule}
 use Rattle.uc_model.specs.Limits.{IsMarket}
 use Rattle.uc_model.specs.PlanLaws.{FeasiblePlansHaveShape}
-use Rattle.uc_plan.specs.Laws.{OnePlan}
+use Rattle.uc_plan.specs.Laws.{ScheduleFileHasOneValueOrOneFault}
 use Rattle.uc_plan.specs.PlanFiles.{IsPlanOf}
 use Rattle.law_outcome.specs.Laws.{HasNoFeasibleSchedule}
 use Rattle.law_outcome.proofs.OneDue.{one_input}
@@ -114,7 +114,8 @@ within_limits : CasesAreWithin → (read : Option (List ℕ)) (m : Market) → I
 within_limits within read m (Ok bytes, is, found) = within bytes m (case_found m bytes found)
 within_limits within read m (Err g, is, e) = absurd cc
 
-module _ (case : OneCase) (within : CasesAreWithin) (plan : OnePlan) (exact : RefusalsAreExact)
+module _ (case : CaseFileHasOneValueOrOneFault) (within : CasesAreWithin) (plan : ScheduleFileHasOneValueOrOneFault)
+    (exact : FeasibleExactlyWithoutBrokenRule)
     (shape : FeasiblePlansHaveShape) where
   -- over such reads another input would be accepted
   none_there : (reads : Reads) (f : TopFault) → IsInput reads (Err f) → (m : Market) →

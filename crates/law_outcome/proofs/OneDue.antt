@@ -3,7 +3,7 @@ use Rattle.law_outcome.proofs.Common.{OutOfForm, Wrong, ◌≡◌, ℕ, ◌<◌,
 use Rattle.law_outcome.proofs.Common.{inr, Result, Ok, Err, sym, ap, subst, ◌∙◌, arith, cases_lt, same_Some, slice_get}
 use Rattle.law_outcome.proofs.Common.{Market, Schedule, Proposal, Asked, price, check, try, bound, fixed, audit, settle}
 use Rattle.law_outcome.proofs.Common.{certify, convex, IsWithinRounds, TextFollows, WordFault}
-use Rattle.law_outcome.proofs.Common.{PriceLists, OneSettlement, Settled, IsSettledAt}
+use Rattle.law_outcome.proofs.Common.{PriceLists, PlanHasAtMostOneSettlement, Settled, IsSettledAt}
 use Rattle.law_outcome.proofs.Common.{PricesFile}
 use Rattle.law_outcome.proofs.Common.{prices_fault, IsPrices, IsPricesFile, IsPriced, IsSettlementText}
 use Rattle.law_outcome.proofs.Common.{IsCertificateText, MixtureFile, MixtureRule, MixtureLists, mixture_fault}
@@ -17,10 +17,10 @@ use Rattle.law_outcome.proofs.Common.{IsFixedText, IsAuditText, command_for}
 use Rattle.std.proofs.lemmas.Int.{ints}
 use Rattle.std.specs.Result.{result_map_both}
 use Rattle.uc_model.specs.Refusals.{Refusal}
-use Rattle.uc_case.specs.Laws.{OneCase}
-use Rattle.uc_plan.specs.Laws.{OnePlan}
-use Rattle.uc_prices.specs.Laws.{OnePrices}
-use Rattle.uc_mixture.specs.Laws.{OneMixture}
+use Rattle.uc_case.specs.Laws.{CaseFileHasOneValueOrOneFault}
+use Rattle.uc_plan.specs.Laws.{ScheduleFileHasOneValueOrOneFault}
+use Rattle.uc_prices.specs.Laws.{PricesFileHasOneValueOrOneFault}
+use Rattle.uc_mixture.specs.Laws.{MixtureFileHasOneValueOrOneFault}
 use Rattle.gap_proof.specs.MixtureBound.{mixture_bound}
 use Rattle.gap_proof.specs.MixtureRefused.{EntryRefusal, entry_refusal_of}
 use Rattle.gap_proof.specs.declared.mixture_check.EntryFault.{EntryFault}
@@ -36,7 +36,7 @@ use Rattle.hull_report.specs.FixedText.{fixed_text}
 use Rattle.hull_report.specs.AuditText.{audit_text}
 use Rattle.hull_report.specs.TryText.{try_text}
 use Rattle.report_read.specs.Differences.{DiffersAt}
-use Rattle.report_read.specs.Laws.{OneReport, OneFault, OneDifference}
+use Rattle.report_read.specs.Laws.{OneReport, AtMostOneLineIsInFault, OneDifference}
 
 -- one step's answer and then the next's are one, where each is
 module _ {A B : Type 0} (first : Result A TopFault → Type 0) (next : A → Result B TopFault → Type 0) where
@@ -73,17 +73,17 @@ one_checked m plan (Err f) (Err g) (r, is_r, p) (s, is_s, q) =
 
 -- what there is at most one of
 pub record AreOne : Type 0 where
-  pub case : OneCase
-  pub plan : OnePlan
+  pub case : CaseFileHasOneValueOrOneFault
+  pub plan : ScheduleFileHasOneValueOrOneFault
   pub report : OneReport
-  pub fault : OneFault
+  pub fault : AtMostOneLineIsInFault
   pub right : OneRightReport
   pub difference : OneDifference
-  pub prices : OnePrices
-  pub mixture : OneMixture
+  pub prices : PricesFileHasOneValueOrOneFault
+  pub mixture : MixtureFileHasOneValueOrOneFault
 
 -- at most one input is due
-module _ (case : OneCase) (plan : OnePlan) where
+module _ (case : CaseFileHasOneValueOrOneFault) (plan : ScheduleFileHasOneValueOrOneFault) where
   one_case_in : (bytes : List ℕ) (a b : Result Market TopFault) → IsCase bytes a → IsCase bytes b → a ≡ b
   one_case_in bytes a b (r, is_r, p) (s, is_s, q) =
       p ∙ ap (result_map_both (λ m. m) case_fault) (case bytes r s is_r is_s) ∙ sym q
@@ -101,7 +101,7 @@ module _ (case : OneCase) (plan : OnePlan) where
       (one_then (IsBytes ScheduleFile (reads ScheduleFile)) (IsPlan m) (λ a b p q. p ∙ sym q) (one_plan_in m))
       (one_checked m))
 
-module _ (prices : OnePrices) where
+module _ (prices : PricesFileHasOneValueOrOneFault) where
   one_prices_in : (periods : ℕ) (bytes : List ℕ) (a b : Result PriceLists TopFault) → IsPrices periods bytes a →
       IsPrices periods bytes b → a ≡ b
   one_prices_in periods bytes a b (r, is_r, p) (s, is_s, q) =
@@ -140,7 +140,7 @@ one_mixed m x (Err f) (Err g) (r, is_r, p) (s, is_s, q) =
     let same : entry_refusal_of r ≡ entry_refusal_of s = cc in
     ap Err (is_r ∙ ap MixtureRule (one_entry_fault r s same) ∙ sym is_s)
 
-module _ (mixture : OneMixture) where
+module _ (mixture : MixtureFileHasOneValueOrOneFault) where
   one_shares : (m : Market) (bytes : List ℕ) (a b : Result MixtureLists TopFault) → IsShares m bytes a →
       IsShares m bytes b → a ≡ b
   one_shares m bytes a b (r, is_r, p) (s, is_s, q) =
@@ -251,7 +251,8 @@ module _ (m : Market) (rows : List Proposal) (centre : ℕ) (radius : ℤ) where
       ]
 
 module _ (one : OneRightReport) (one_side : OneRightSide) (determined : TextDeterminesReport)
-    (has_form : RightReportHasForm) (prices : OnePrices) (settled : OneSettlement) (mixture : OneMixture) where
+    (has_form : RightReportHasForm) (prices : PricesFileHasOneValueOrOneFault) (settled : PlanHasAtMostOneSettlement)
+    (mixture : MixtureFileHasOneValueOrOneFault) where
   one_report_text : (text_of : Report → List ℕ) (budget ahead : ℕ) (c : PlannedCase) (text other : List ℕ)
       → IsReportText text_of budget ahead c text → IsReportText text_of budget ahead c other → text ≡ other
   one_report_text text_of budget ahead c text other (r, is_r, p) (s, is_s, q) =

@@ -2,9 +2,9 @@
 use Rattle.law_outcome.proofs.Common.{◌≡◌, ℕ, ◌*◌, ◌≤◌, ◌⊎◌, inl, inr, Bool, true, false, List, Option, None, Some}
 use Rattle.law_outcome.proofs.Common.{Result, Ok, Err, refl, sym, ap, ◌∙◌, subst, arith, ◌-◌, ◌<◌, ℤ, pos, ◌≤ℤ◌, All}
 use Rattle.law_outcome.proofs.Common.{length-map, get_or-map, IsTrue, IfSome, IsSome, if◌then◌else◌, nat_lt, Market}
-use Rattle.law_outcome.proofs.Common.{Schedule, unit_count, IsFeasiblePlan, plan_cost, int_at, NothingIsPaidBack}
+use Rattle.law_outcome.proofs.Common.{Schedule, unit_count, IsFeasiblePlan, plan_cost, int_at, PaymentsAreAtLeastZero}
 use Rattle.law_outcome.proofs.Common.{RunPricesAreWithin, UnitLine, Report, unit_lines, IsRightReport, words_of}
-use Rattle.law_outcome.proofs.Common.{WordsHaveSizes, MOST_BYTES, Asked, CheckAsked, PriceAsked, AuditAsked}
+use Rattle.law_outcome.proofs.Common.{WordsHaveNumbersInRange, MOST_BYTES, Asked, CheckAsked, PriceAsked, AuditAsked}
 use Rattle.law_outcome.proofs.Common.{SettleAsked, CertifyAsked, price, check, try, bound, fixed, audit, settle}
 use Rattle.law_outcome.proofs.Common.{certify, convex, rounds_for, WordFault, PricesFile}
 use Rattle.law_outcome.proofs.Common.{MixtureFile, PricesText, PricesValue, MixtureText}
@@ -663,7 +663,7 @@ pub record PaysNoneBack (r : Report) : Type 0 where
   pub payments : All (λ (l : UnitLine). pos 0 ≤ℤ l.payment) (unit_lines r)
   pub surplus : pos 0 ≤ℤ r.surplus
 
-pub pays_none_back : RunPricesAreWithin → NothingIsPaidBack →
+pub pays_none_back : RunPricesAreWithin → PaymentsAreAtLeastZero →
     (m : Market) (plan : List Schedule) (budget ahead : ℕ) (r : Report) → 1 ≤ ahead → IsFeasiblePlan m plan →
     IsRightReport m plan budget ahead r → PaysNoneBack r
 pays_none_back priced nothing m plan budget ahead r some feasible right =
@@ -682,8 +682,8 @@ pays_none_back priced nothing m plan budget ahead r some feasible right =
       surplus = paid.1;
     }
 
-module _ (words_have_sizes : WordsHaveSizes) (got : BytesAreThoseRead) (gap : ReportPaymentsMakeUpTheGap)
-    (priced : RunPricesAreWithin) (nothing : NothingIsPaidBack) (a : PriceAsked) (told : List ℕ → Option (List ℕ))
+module _ (words_have_sizes : WordsHaveNumbersInRange) (got : BytesAreThoseRead) (gap : ReportPaymentsMakeUpTheGap)
+    (priced : RunPricesAreWithin) (nothing : PaymentsAreAtLeastZero) (a : PriceAsked) (told : List ℕ → Option (List ℕ))
     (rose gained short : List ℕ → Type 0) where
   promised : (reads : Reads) → 1 ≤ a.ahead → AreReads told rose (case_and_schedule a.case_name a.schedule_name) reads →
       HasText (command_for (Ok (price a))) reads gained → IsPromised a told gained

@@ -1,5 +1,6 @@
 -- The text of a search tells what was found.
-use Rattle.law_outcome.proofs.Common.{◌≡◌, ℕ, List, [], ◌∷◌, refl, sym, ap, ◌∙◌, subst, PriceLists, OneSettlement}
+use Rattle.law_outcome.proofs.Common.{◌≡◌, ℕ, List, [], ◌∷◌, refl, sym, ap, ◌∙◌, subst, PriceLists}
+use Rattle.law_outcome.proofs.Common.{PlanHasAtMostOneSettlement}
 use Rattle.law_outcome.proofs.Common.{IsSettledAt}
 use Rattle.law_outcome.proofs.Common.{Proposal}
 use Rattle.std.proofs.Common.{map}
@@ -46,7 +47,7 @@ module _ (R S : NamedThermalUnit → List WeighedSchedule → Type 0) where
 
 -- ---- what was found
 
-pub text_tells_the_search : SettlementsHaveForm → TextDeterminesConvex → OneSettlement → TextTellsTheSearch
+pub text_tells_the_search : SettlementsHaveForm → TextDeterminesConvex → PlanHasAtMostOneSettlement → TextTellsTheSearch
 unfolding convex_of settlement_of
 text_tells_the_search form text one m plan cost other_cost goal other_goal f other s other_s h h_at k k_at same =
     let e = text (convex_of m cost s f.mixture goal.within goal.rounds f.made f.bound)

@@ -14,7 +14,7 @@ use Rattle.hull_report.specs.SettledText.{settlement_of}
 use Rattle.hull_fault.specs.declared.fault.FileKind.{FileKind}
 use Rattle.uc_model.specs.Laws.{ReserveFrom0}
 use Rattle.uc_prices.specs.Kept.{IsPriceOf}
-use Rattle.uc_prices.specs.Laws.{OnePrices, HaveForm, PricesHaveForm}
+use Rattle.uc_prices.specs.Laws.{PricesFileHasOneValueOrOneFault, HaveForm, PricesArePerPeriodAndWithinLimits}
 use Rattle.uc_prices.specs.declared.fault.PriceField.TheVariants.{Reserve}
 use Rattle.std.proofs.lemmas.List.Elements.{All-get_or}
 use Rattle.law_outcome.proofs.OutcomeLaws.{status_within, same_fault, bytes_fault, input_fault, accepted_is_feasible}
@@ -58,7 +58,8 @@ from_zero m bytes π asks = record {
       asks.reserve_within).at_least;
 }
 
-module _ (got : BytesAreThoseRead) (add_up : SettlementsAddUp) (form : PricesHaveForm) (a : SettleAsked)
+module _ (got : BytesAreThoseRead) (add_up : SettlementsAddUp) (form : PricesArePerPeriodAndWithinLimits)
+    (a : SettleAsked)
     (told : List ℕ → Option (List ℕ)) (rose gained : List ℕ → Type 0) where
   pub settle_promised : (reads : Reads) → AreReads told rose (with_prices a.case_name a.schedule_name a.prices_name)
       reads → HasText (command_for (Ok (settle a))) reads gained → IsSettlePromised a told gained
@@ -102,7 +103,8 @@ too_many file (Some bytes) e =
     long true e = refl
     long false e = absurd cc
 
-module _ (got : BytesAreThoseRead) (one : OnePrices) (c : Command) (gained short : List ℕ → Type 0) (reads : Reads)
+module _ (got : BytesAreThoseRead) (one : PricesFileHasOneValueOrOneFault) (c : Command)
+    (gained short : List ℕ → Type 0) (reads : Reads)
     (f : TopFault) (lines : gained (fault_line f) ⊎ short (fault_line f))
     (nine : status_of f ≡ 9) (due_f : c.IsDue reads (Err f)) where
   abbrev IsSo : Type 0
@@ -163,7 +165,8 @@ module _ (got : BytesAreThoseRead) (one : OnePrices) (c : Command) (gained short
 
 -- ---- both
 
-module _ (got : BytesAreThoseRead) (add_up : SettlementsAddUp) (form : PricesHaveForm) (one : OnePrices)
+module _ (got : BytesAreThoseRead) (add_up : SettlementsAddUp) (form : PricesArePerPeriodAndWithinLimits)
+    (one : PricesFileHasOneValueOrOneFault)
     (a : SettleAsked) (told : List ℕ → Option (List ℕ)) (rose gained short : List ℕ → Type 0) where
   abbrev Promise : Result Asked WordFault → ℕ → Type 0
   Promise w n =

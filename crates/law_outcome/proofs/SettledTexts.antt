@@ -1,7 +1,7 @@
 -- The text of a settlement tells the settlement.
 use Rattle.law_outcome.proofs.Common.{◌≡◌, ℕ, ◌<◌, true, false, List, [], ◌∷◌, length, slice_get, Some, refl, sym}
 use Rattle.law_outcome.proofs.Common.{ap, ◌∙◌, subst, arith, same_Some, All, IsTrue, IsFlatLine, UnitLine, Market}
-use Rattle.law_outcome.proofs.Common.{PriceLists, Schedule, OneSettlement, Settled, IsSettledAt, Proposal}
+use Rattle.law_outcome.proofs.Common.{PriceLists, Schedule, PlanHasAtMostOneSettlement, Settled, IsSettledAt, Proposal}
 use Rattle.std.proofs.Common.{zero, suc, ◌+◌, map, get_or, replicate}
 use Rattle.std.proofs.lemmas.List.{length-replicate, get_or-replicate, get_or_default, same_lists}
 use Rattle.std.proofs.lemmas.List.Elements.{All-nil, All-cons}
@@ -9,7 +9,7 @@ use Rattle.std.proofs.lemmas.Option.{none-some}
 use Rattle.std.specs.List.{AllZip}
 use Rattle.std.specs.Prelude.{slice_index, slice_index_or}
 use Rattle.uc_model.specs.Data.{AnyUnit, Flat, Bid, NamedRenewableUnit, NamedBidUnit, units}
-use Rattle.uc_model.specs.PlanLaws.{UnitsAreNumbered}
+use Rattle.uc_model.specs.PlanLaws.{UnitNumbersGoByKind}
 use Rattle.uc_model.specs.Runs.{Fits}
 use Rattle.uc_model.specs.Schedules.{IsSchedule}
 use Rattle.right_report.specs.RecordReport.{lines_from}
@@ -81,7 +81,7 @@ module _ (m : Market) (π : PriceLists) (s : Settled) (fit : AllZip (λ u r. Fit
 
 -- ---- the settlement
 
-pub settlements_have_form : UnitsAreNumbered → SettlementsHaveForm
+pub settlements_have_form : UnitNumbersGoByKind → SettlementsHaveForm
 unfolding settlement_of
 settlements_have_form numbered m plan π cost s h =
     let number = numbered m in
@@ -90,7 +90,7 @@ settlements_have_form numbered m plan π cost s h =
       bids = bid_lines m π s h.answers m.bids (length m.thermal + length m.flat) number.bids;
     }
 
-pub text_tells_the_settlement : SettlementsHaveForm → TextDeterminesSettlement → OneSettlement →
+pub text_tells_the_settlement : SettlementsHaveForm → TextDeterminesSettlement → PlanHasAtMostOneSettlement →
     TextTellsTheSettlement
 unfolding settlement_of
 text_tells_the_settlement form text one m plan π ρ cost other_cost s other h k same =

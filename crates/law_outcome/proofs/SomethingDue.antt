@@ -16,7 +16,7 @@ use Rattle.law_outcome.proofs.Common.{PlannedCase, command_for, Report, report_t
 use Rattle.law_outcome.proofs.Common.{TextDeterminesReport}
 use Rattle.law_outcome.proofs.Common.{RightReportHasForm, OneRightReport, IsFeasiblePlan, plan_cost, IsMixture}
 use Rattle.std.specs.Result.{result_map_both}
-use Rattle.uc_model.specs.Laws.{HasPlanShape, RefusalsAreExact}
+use Rattle.uc_model.specs.Laws.{HasPlanShape, FeasibleExactlyWithoutBrokenRule}
 use Rattle.uc_model.specs.Refusals.{Refusal, refusals}
 use Rattle.plan_check.specs.declared.RuleFault.{RuleFault}
 use Rattle.gap_proof.specs.Mixtures.{HasMixtureShape}
@@ -28,7 +28,7 @@ use Rattle.law_parts.specs.CaseLaws.{SomeCase}
 use Rattle.law_parts.specs.PriceLaws.{SomePrices}
 use Rattle.right_report.specs.Existence.{RightReportsExist}
 use Rattle.report_read.specs.Bounds.{IsReport}
-use Rattle.report_read.specs.Laws.{ReportOrFault}
+use Rattle.report_read.specs.Laws.{EachTextIsReportOrHasFault}
 use Rattle.report_compare.specs.Right.{SomeDifference}
 use Rattle.case_make.proofs.MarketLaws.{made_feasible}
 use Rattle.case_make.specs.Words.{start_of}
@@ -54,8 +54,8 @@ module _ {A B : Type 0} (first : Result A TopFault → Type 0) (next : A → Res
 pub record AreThere : Type 0 where
   pub case : SomeCase
   pub plan : SomePlan
-  pub exact : RefusalsAreExact
-  pub report : ReportOrFault
+  pub exact : FeasibleExactlyWithoutBrokenRule
+  pub report : EachTextIsReportOrHasFault
   pub right : RightReportsExist
   pub one_right : OneRightReport
   pub text : TextDeterminesReport

@@ -10,7 +10,7 @@ use Rattle.hull_input.specs.Files.{Reads}
 use Rattle.hull_input.specs.Planned.{PlannedCase}
 use Rattle.hull_command.specs.Outcome.{command_for}
 
--- a feasible plan has a settlement at any prices over the horizon, and by `one_settlement` of
+-- a feasible plan has a settlement at any prices over the horizon, and by `plan_has_at_most_one_settlement` of
 -- price_settle just one
 abbrev pub SettlementsExist : Type 0
 SettlementsExist =

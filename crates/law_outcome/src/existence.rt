@@ -3,18 +3,18 @@ ghost use Rattle.law_outcome.specs.Existence.{SettlementsExist, SomethingIsDue};
 
 use law_parts::cases::case_or_fault;
 use law_parts::prices::prices_or_fault;
-use plan_check::laws::refusals_are_exact;
-use report_compare::laws::wrong_reports_differ;
+use plan_check::laws::feasible_exactly_without_broken_rule;
+use report_compare::laws::wrong_report_has_first_wrong_line;
 use report_form::laws::text_determines_the_report;
-use report_read::laws::report_or_fault;
+use report_read::laws::each_text_is_report_or_has_fault;
 use right_report::laws::{
     best_responses_exist, one_report_is_right, right_report_has_form, right_reports_exist,
 };
-use uc_mixture::laws::mixture_or_fault;
-use uc_plan::laws::plan_or_fault;
+use uc_mixture::laws::mixture_file_has_value_or_fault;
+use uc_plan::laws::schedule_file_has_value_or_fault;
 
 /// A feasible schedule has a settlement at any prices over the horizon of its case, and by
-/// `price_settle::laws::one_settlement` just one.
+/// `price_settle::laws::plan_has_at_most_one_settlement` just one.
 pub fn settlements_exist()
     ensures { SettlementsExist }
 {
@@ -28,14 +28,14 @@ pub fn something_is_due()
     ensures { SomethingIsDue }
 {
     case_or_fault();
-    plan_or_fault();
-    refusals_are_exact();
-    report_or_fault();
+    schedule_file_has_value_or_fault();
+    feasible_exactly_without_broken_rule();
+    each_text_is_report_or_has_fault();
     right_reports_exist();
     one_report_is_right();
     text_determines_the_report();
     right_report_has_form();
-    wrong_reports_differ();
+    wrong_report_has_first_wrong_line();
     prices_or_fault();
-    mixture_or_fault();
+    mixture_file_has_value_or_fault();
 }

@@ -8,7 +8,7 @@ ghost use Rattle.law_outcome.specs.Laws.{SettlementsHold, CertificatesHold, Work
 ghost use Rattle.law_outcome.specs.Laws.{RunsPrintTheSame, SearchesHold};
 
 use gap_proof::mixture_laws::mixtures_break_no_rule;
-use hull_command::laws::words_have_sizes;
+use hull_command::laws::words_have_numbers_in_range;
 use hull_input::laws::{bytes_are_those_read, report_bytes_are_its_text};
 use hull_io::{Shelf, Sink};
 use law_parts::audit::printed_reports_are_in_form;
@@ -17,33 +17,37 @@ use law_parts::bounds::{
     run_prices_are_within,
 };
 use law_parts::cases::cases_are_within;
-use plan_check::laws::refusals_are_exact;
-use price_settle::laws::{one_settlement, payments_and_surplus_make_the_gap};
+use plan_check::laws::feasible_exactly_without_broken_rule;
+use price_settle::laws::{payments_and_surplus_make_the_gap, plan_has_at_most_one_settlement};
 use report_form::laws::text_determines_the_report;
-use report_read::laws::{one_line_differs, one_line_is_in_fault, one_report_has_a_text};
-use right_report::laws::{
-    one_report_is_right, one_row_is_chosen, one_side_is_right, report_payments_make_up_the_gap,
-    right_report_has_form, side_payments_make_up_the_gap,
+use report_read::laws::{
+    at_most_one_line_is_in_fault, no_two_reports_share_a_text, texts_first_differ_at_one_line,
 };
-use uc_case::laws::one_case;
-use uc_mixture::laws::one_mixture;
-use uc_model::laws::{feasible_plans_have_shape, nothing_is_paid_back};
-use uc_plan::laws::one_plan;
-use uc_prices::laws::{one_prices, prices_have_form};
+use right_report::laws::{
+    one_report_is_right, one_row_is_chosen, payments_of_fixed_report_side_make_up_the_gap,
+    report_payments_make_up_the_gap, right_report_has_form, right_side_of_fixed_report_is_unique,
+};
+use uc_case::laws::case_file_has_one_value_or_one_fault;
+use uc_mixture::laws::mixture_file_has_one_value_or_one_fault;
+use uc_model::laws::{feasible_plans_have_shape, payments_are_at_least_zero};
+use uc_plan::laws::schedule_file_has_one_value_or_one_fault;
+use uc_prices::laws::{
+    prices_are_per_period_and_within_limits, prices_file_has_one_value_or_one_fault,
+};
 
 /// Over what was read, at most one input is accepted or one refusal is due. So
 /// `each_status_has_its_cause` also says that a status comes nowhere else.
 pub fn one_thing_is_due()
     ensures { OneDue }
 {
-    one_case();
-    one_plan();
-    one_report_has_a_text();
-    one_line_is_in_fault();
+    case_file_has_one_value_or_one_fault();
+    schedule_file_has_one_value_or_one_fault();
+    no_two_reports_share_a_text();
+    at_most_one_line_is_in_fault();
     one_report_is_right();
-    one_line_differs();
-    one_prices();
-    one_mixture();
+    texts_first_differ_at_one_line();
+    prices_file_has_one_value_or_one_fault();
+    mixture_file_has_one_value_or_one_fault();
 }
 
 /// At most one text may be printed of an input, but for a search: what `hull price` prints is a
@@ -52,12 +56,12 @@ pub fn one_text_is_right()
     ensures { OneText }
 {
     one_report_is_right();
-    one_side_is_right();
+    right_side_of_fixed_report_is_unique();
     text_determines_the_report();
     right_report_has_form();
-    one_prices();
-    one_settlement();
-    one_mixture();
+    prices_file_has_one_value_or_one_fault();
+    plan_has_at_most_one_settlement();
+    mixture_file_has_one_value_or_one_fault();
 }
 
 /// What a command accepts is a case with a feasible schedule and that schedule's cost.
@@ -88,10 +92,10 @@ pub fn words_follow<F: Shelf, S: Sink>()
 pub fn refused_schedules_are_infeasible<F: Shelf, S: Sink>()
     ensures { RefusedSchedulesAreInfeasible F.told F.faults F.last S.held S.faults S.last }
 {
-    one_case();
+    case_file_has_one_value_or_one_fault();
     cases_are_within();
-    one_plan();
-    refusals_are_exact();
+    schedule_file_has_one_value_or_one_fault();
+    feasible_exactly_without_broken_rule();
     feasible_plans_have_shape();
 }
 
@@ -99,11 +103,11 @@ pub fn refused_schedules_are_infeasible<F: Shelf, S: Sink>()
 pub fn reports_are_right<F: Shelf, S: Sink>()
     ensures { ReportsAreRight F.told F.faults F.last S.held S.faults S.last }
 {
-    words_have_sizes();
+    words_have_numbers_in_range();
     bytes_are_those_read();
     report_payments_make_up_the_gap();
     run_prices_are_within();
-    nothing_is_paid_back();
+    payments_are_at_least_zero();
 }
 
 /// What `hull bound` promises where it answers 0: no whole prices within the radius of the chosen
@@ -112,7 +116,7 @@ pub fn reports_are_right<F: Shelf, S: Sink>()
 pub fn bounds_hold<F: Shelf, S: Sink>()
     ensures { BoundsHold F.told F.faults F.last S.held S.faults S.last }
 {
-    words_have_sizes();
+    words_have_numbers_in_range();
     one_row_is_chosen();
     run_bounds_hold();
 }
@@ -123,10 +127,10 @@ pub fn bounds_hold<F: Shelf, S: Sink>()
 pub fn both_gaps_are_made_up<F: Shelf, S: Sink>()
     ensures { BothGapsAreMadeUp F.told F.faults F.last S.held S.faults S.last }
 {
-    words_have_sizes();
-    side_payments_make_up_the_gap();
+    words_have_numbers_in_range();
+    payments_of_fixed_report_side_make_up_the_gap();
     run_prices_are_within();
-    nothing_is_paid_back();
+    payments_are_at_least_zero();
 }
 
 /// What `hull audit` promises: where it answers 0, the bytes of the report's file are the text of a
@@ -140,7 +144,7 @@ pub fn audits_hold<F: Shelf, S: Sink>()
     report_bytes_are_its_text();
     report_payments_make_up_the_gap();
     run_prices_are_within();
-    nothing_is_paid_back();
+    payments_are_at_least_zero();
     text_determines_the_report();
     right_report_has_form();
     printed_reports_are_in_form();
@@ -161,8 +165,8 @@ pub fn settlements_hold<F: Shelf, S: Sink>()
 {
     bytes_are_those_read();
     payments_and_surplus_make_the_gap();
-    prices_have_form();
-    one_prices();
+    prices_are_per_period_and_within_limits();
+    prices_file_has_one_value_or_one_fault();
 }
 
 /// What `hull certify` promises: where it answers 0, what it prints is what the schedule is settled
@@ -173,13 +177,13 @@ pub fn settlements_hold<F: Shelf, S: Sink>()
 pub fn certificates_hold<F: Shelf, S: Sink>()
     ensures { CertificatesHold F.told F.faults F.last S.held S.faults S.last }
 {
-    words_have_sizes();
+    words_have_numbers_in_range();
     bytes_are_those_read();
     payments_and_surplus_make_the_gap();
     cases_are_within();
-    prices_have_form();
-    one_prices();
-    one_mixture();
+    prices_are_per_period_and_within_limits();
+    prices_file_has_one_value_or_one_fault();
+    mixture_file_has_one_value_or_one_fault();
     mixture_bound_holds();
     mixture_bound_reaches_centre();
     payments_reach_least();

@@ -71,8 +71,8 @@ pub use Rattle.law_parts.specs.BoundLaws.{IsAnswered, ArePriced, IsInBox, RunBou
 pub use Rattle.law_parts.specs.BoundLaws.{AnsweredRowsAreWithin}
 pub use Rattle.plain_lists.specs.declared.limits.TheConstants.{MOST_UNITS, MOST_PROPOSALS, MOST_AHEAD}
 pub use Rattle.uc_model.specs.BoundLaws.{GivesWithin, OutputsAreWithin, EarningsAreWithin, UnitsAreWithin}
-pub use Rattle.uc_model.specs.BoundLaws.{TotalsAreWithin, PlanCostsAreWithin, DualValuesAreWithin}
-pub use Rattle.uc_model.specs.Laws.{ReserveFrom0, NothingIsPaidBack}
+pub use Rattle.uc_model.specs.BoundLaws.{PowerAndReserveTotalsAreWithin, PlanCostsAreWithin, DualValuesAreWithin}
+pub use Rattle.uc_model.specs.Laws.{ReserveFrom0, PaymentsAreAtLeastZero}
 pub use Rattle.report_form.specs.Laws.{IsFlatLine}
 pub use Rattle.report_form.specs.ReportText.{UnitLine, Report}
 pub use Rattle.right_report.specs.Laws.{RightReportHasForm, ReportPaymentsMakeUpTheGap, OneIsChosen, OneRun}

@@ -20,7 +20,7 @@ use Rattle.plain_lists.specs.Ranges.{IsFrom}
 use Rattle.uc_model.specs.Limits.{price_limit}
 use Rattle.uc_text.specs.Pairs.{Pair}
 use Rattle.uc_text.specs.Values.{Value}
-use Rattle.text_tokens.specs.Rounding.{RoundsToNearest, rounded}
+use Rattle.text_tokens.specs.Rounding.{DecimalRoundsToNearestInteger, rounded}
 use Rattle.text_tokens.specs.declared.decimal.Decimal.{Decimal}
 use Rattle.uc_text.specs.Inside.{number_in, list_in, object_in, value_under}
 use Rattle.uc_text.specs.Words.{◌>>=◌, ◌>>◌, refuse, need}
@@ -62,7 +62,7 @@ tested at v x reads false true is_large is_below = let n = below_0 at.field x is
     (refl, refl, (n.0, x, reads, n.1, n.2))
 tested at v x reads false false is_large is_below = (reads, is_price at.field x is_large is_below)
 
-module _ (nearest : RoundsToNearest) where
+module _ (nearest : DecimalRoundsToNearestInteger) where
   item_by : (at : PriceSite) (v : Value) (o : Option Decimal) → number_in v ≡ o
       → ItemIs at v (need (fault at WrongKind) o >>= (λ d. refuse (fault at TooLarge) (nat_lt most_price
       (unsigned_abs (rounded d 3))) >> (refuse (fault at Negative) (is_reserve at.field && int_lt (rounded d 3)
@@ -182,7 +182,7 @@ not_true : (b : Bool) → not b ≡ false → b ≡ true
 not_true true e = refl
 not_true false e = absurd (true≢false e)
 
-module _ (nearest : RoundsToNearest) where
+module _ (nearest : DecimalRoundsToNearestInteger) where
   each_is : (at : PriceSite) (vs : List Value) (before : List ℤ) →
       EachIs at vs before (each (λ before. price (item_at at (position before))) before vs)
   unfolding each
@@ -255,7 +255,7 @@ joined periods v ms is (Ok e) (Err f) a b = subst (λ (field : PriceField). HasF
 joined periods v ms is (Err f) rs a b = subst (λ (field : PriceField). HasFault periods v field f.code f.item)
     (sym a.0) (ms, is, a.1)
 
-module _ (nearest : RoundsToNearest) where
+module _ (nearest : DecimalRoundsToNearestInteger) where
   value_by : (periods : ℕ) (v : Value) (o : Option (List Pair)) → object_in v ≡ o
       → IsReadAs periods v (need (fault (site Whole) WrongKind) o
       >>= (λ ms. energy periods (value_under (codes "energy") ms)

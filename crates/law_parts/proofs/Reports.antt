@@ -3,10 +3,12 @@ use Rattle.law_parts.proofs.Common.{◌≡◌, ℕ, ◌+◌, ◌-◌, ◌<◌, �
 use Rattle.law_parts.proofs.Common.{ap, ◌∙◌, subst, arith, inl, inr, ints, length-map, slice_get_within}
 use Rattle.law_parts.proofs.Common.{get_or_from_slice_get, All, AllByRecursion, AllZip, recursion_from_All, IsUtf8}
 use Rattle.law_parts.proofs.Common.{MOST_UNITS, MOST_PROPOSALS, MOST_AHEAD, UnitsAreWithin, OutputsAreWithin}
-use Rattle.law_parts.proofs.Common.{EarningsAreWithin, TotalsAreWithin, PlanCostsAreWithin, DualValuesAreWithin}
+use Rattle.law_parts.proofs.Common.{EarningsAreWithin, PowerAndReserveTotalsAreWithin, PlanCostsAreWithin}
+use Rattle.law_parts.proofs.Common.{DualValuesAreWithin}
 use Rattle.law_parts.proofs.Common.{NamedThermalUnit, NamedRenewableUnit, NamedBidUnit, Schedule, Market, units}
 use Rattle.law_parts.proofs.Common.{thermal_names, renewable_names, bid_names, unit_names, ReserveFrom0}
-use Rattle.law_parts.proofs.Common.{NothingIsPaidBack, IsHorizon, IsSum, IsWorth, Proposal, Fits, IsRun, IsFeasible}
+use Rattle.law_parts.proofs.Common.{PaymentsAreAtLeastZero, IsHorizon, IsSum, IsWorth, Proposal, Fits, IsRun}
+use Rattle.law_parts.proofs.Common.{IsFeasible}
 use Rattle.law_parts.proofs.Common.{plan_cost, ArePriced, RunPricesAreWithin, IsFlatLine, UnitLine, Report}
 use Rattle.law_parts.proofs.Common.{RightReportHasForm, ReportPaymentsMakeUpTheGap, unit_lines, IsRightReport, IsAmount}
 use Rattle.law_parts.proofs.Common.{IsProposal, IsThermalLine, IsOtherLine, IsReport, IsPlannedCase, AreAsked}
@@ -52,8 +54,8 @@ abbrev name_of : UnitLine → List ℕ
 name_of l = l.name
 
 module _ (unit_in : UnitsAreWithin) (output_in : OutputsAreWithin) (earning_in : EarningsAreWithin)
-    (total_in : TotalsAreWithin) (cost_in : PlanCostsAreWithin) (dual_in : DualValuesAreWithin)
-    (nothing : NothingIsPaidBack) (priced : RunPricesAreWithin) (has_form : RightReportHasForm)
+    (total_in : PowerAndReserveTotalsAreWithin) (cost_in : PlanCostsAreWithin) (dual_in : DualValuesAreWithin)
+    (nothing : PaymentsAreAtLeastZero) (priced : RunPricesAreWithin) (has_form : RightReportHasForm)
     (gap : ReportPaymentsMakeUpTheGap)
     (m : Market) (plan : List Schedule) (budget ahead : ℕ) (r : Report) (planned : IsPlannedCase m plan)
     (asked : AreAsked budget ahead) (right : IsRightReport m plan budget ahead r) where

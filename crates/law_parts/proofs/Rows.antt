@@ -2,7 +2,8 @@
 use Rattle.law_parts.proofs.Common.{ℕ, ◌≤◌, ℤ, List, map, length, take, get_or, sym, ◌∙◌, subst, arith, ints}
 use Rattle.law_parts.proofs.Common.{length-map, length-range_with_len, slice_get-get_or, All, AllZip}
 use Rattle.law_parts.proofs.Common.{recursion_from_All, All-map, range_with_len, GivesWithin, OutputsAreWithin}
-use Rattle.law_parts.proofs.Common.{UnitsAreWithin, TotalsAreWithin, DualValuesAreWithin, AnyUnit, PriceLists, Schedule}
+use Rattle.law_parts.proofs.Common.{UnitsAreWithin, PowerAndReserveTotalsAreWithin, DualValuesAreWithin, AnyUnit}
+use Rattle.law_parts.proofs.Common.{PriceLists, Schedule}
 use Rattle.law_parts.proofs.Common.{Market, units, IsHorizon, IsMarket, IsUnit, ArePrices, IsTotal, IsWorth, Proposal}
 use Rattle.law_parts.proofs.Common.{Fits, IsNextRow, IsRun, total_power, total_reserve, ArePriced, RunPricesAreWithin}
 use Rattle.law_parts.proofs.Common.{IsAmount, IsEnergyPrice, IsReservePrice, IsList, IsProposal}
@@ -29,7 +30,7 @@ are_prices m π within h = record {
   reserve = h.reserve;
 }
 
-module _ (unit_in : UnitsAreWithin) (output_in : OutputsAreWithin) (total_in : TotalsAreWithin)
+module _ (unit_in : UnitsAreWithin) (output_in : OutputsAreWithin) (total_in : PowerAndReserveTotalsAreWithin)
     (dual_in : DualValuesAreWithin) (m : Market) (within : IsMarket m) where
   -- what a case's units answer to prices is within their limits
   gives : (π : PriceLists) (schedules : List Schedule) → AllZip (λ u s. Fits u π s) (units m) schedules →

@@ -3,7 +3,7 @@ use Rattle.law_parts.proofs.Common.{◌≡◌, ℕ, ℤ, List, [], ◌∷◌, ma
 use Rattle.law_parts.proofs.Common.{length-map-range_with_len, get_or-map-range_with_len, All, AllZip, range_with_len}
 use Rattle.law_parts.proofs.Common.{AnyUnit, PriceLists, Schedule, units, IsUnit, IsTotal, Fits, total_power}
 use Rattle.law_parts.proofs.Common.{total_reserve, All-head, All-tail, AnsweredRowsAreWithin}
-use Rattle.uc_model.specs.BoundLaws.{GivesWithin, UnitsAreWithin, OutputsAreWithin, TotalsAreWithin}
+use Rattle.uc_model.specs.BoundLaws.{GivesWithin, UnitsAreWithin, OutputsAreWithin, PowerAndReserveTotalsAreWithin}
 use Rattle.uc_model.specs.BoundLaws.{DualValuesAreWithin}
 
 answers_give : OutputsAreWithin → (π : PriceLists) (us : List AnyUnit) (ss : List Schedule) → All IsUnit us →
@@ -24,7 +24,8 @@ listed f n xs h e =
     let count = length-map-range_with_len f 0 n in
     subst IsTotal (sym (get_or-map-range_with_len f 0 n k k d (omega (arith, lt, count)) (omega arith))) (h k))
 
-pub rows_within : UnitsAreWithin → OutputsAreWithin → TotalsAreWithin → DualValuesAreWithin → AnsweredRowsAreWithin
+pub rows_within : UnitsAreWithin → OutputsAreWithin → PowerAndReserveTotalsAreWithin → DualValuesAreWithin →
+    AnsweredRowsAreWithin
 rows_within units_law outputs_law totals_law values_law m r market prices h =
     let give = answers_give outputs_law r.prices (units m) h.schedules (units_law m market) h.answers in
     record {

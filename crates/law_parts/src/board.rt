@@ -28,7 +28,7 @@ pub fn machine_means()
 /// twice as many entries as tasks, and one for each caller. `halts`: without its halts it is legal
 /// and has the same rows, so a halt never changes a price or a value. `totals`: they may run while
 /// answers come in, each answer adds what it gives and earns. `tasks`: two whose flat lists have
-/// the same number at each place that both have are one task.
+/// the same number at each place that both have are of the same prices and the same unit.
 pub fn histories_keep()
     ensures rows { RowsAreRight Fits }
     ensures events { EventsAreAtMost }

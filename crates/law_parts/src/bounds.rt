@@ -8,7 +8,7 @@ ghost use Rattle.law_parts.specs.MixtureLaws.{PaymentsReachLeast};
 
 use uc_model::laws::{
     dual_is_at_most_cost, dual_values_are_within, outputs_are_within, payments_make_up_the_gap,
-    totals_are_within, units_are_within,
+    power_and_reserve_totals_are_within, units_are_within,
 };
 
 /// No whole prices in the box have a dual value above the bound by rows, whatever the weights.
@@ -47,7 +47,7 @@ pub fn answered_rows_are_within()
 {
     units_are_within();
     outputs_are_within();
-    totals_are_within();
+    power_and_reserve_totals_are_within();
     dual_values_are_within();
 }
 

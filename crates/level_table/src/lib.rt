@@ -15,7 +15,7 @@ ghost use Rattle.slope_list.proofs.Lookup.{within_by_index};
 ghost use Rattle.slope_list.specs.Table.{value_of, IsConvexList, IsPlace, IsAmount, HasNone};
 
 use slope_list::shape_laws::{
-    curve_places_are_limited, effects_keep_convexity, effects_keep_limits,
+    curve_powers_are_within_limits, operations_keep_convexity, operations_keep_limits,
 };
 use std::alloc::{AllocError, Global};
 use test_shapes::{Cells, Heap, Shape, curve_at};
@@ -164,8 +164,8 @@ fn window_of(
             values: Vec::new(alloc),
         });
     }
-    effects_keep_convexity();
-    effects_keep_limits();
+    operations_keep_convexity();
+    operations_keep_limits();
     let last = s.lo + (len - 1) as i64;
     let from = lo.max(s.lo - down);
     let to = hi.min(last + up);
@@ -247,7 +247,7 @@ impl Term for Moved<'_> {
     ghost limited = { λ m. IsLimitedCurve m.curve.now };
 
     fn plus(&self, value: i64, x: i64) -> i64 {
-        curve_places_are_limited();
+        curve_powers_are_within_limits();
         value + curve_at(self.curve, x + self.shift)
     }
 }
@@ -319,15 +319,15 @@ impl Shape for Levels {
     }
 
     fn add_curve(&mut self, _home: &mut Heap, curve: &Curve, shift: i64) -> Result<(), AllocError> {
-        effects_keep_convexity();
-        effects_keep_limits();
+        operations_keep_convexity();
+        operations_keep_limits();
         add_term(&mut self.values, self.lo, &Moved { curve, shift });
         Ok(())
     }
 
     fn add_line(&mut self, _home: &mut Heap, slope: i64) {
-        effects_keep_convexity();
-        effects_keep_limits();
+        operations_keep_convexity();
+        operations_keep_limits();
         add_term(&mut self.values, self.lo, &Line { slope });
     }
 
@@ -338,8 +338,8 @@ impl Shape for Levels {
         cap: i64,
         up: i64,
     ) -> Result<(), AllocError> {
-        effects_keep_convexity();
-        effects_keep_limits();
+        operations_keep_convexity();
+        operations_keep_limits();
         add_term(&mut self.values, self.lo, &Reserve { mu, cap, up });
         Ok(())
     }

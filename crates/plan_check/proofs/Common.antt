@@ -22,7 +22,7 @@ pub use Rattle.plain_lists.proofs.ListLaws.{zip_item, front_item, sum_more, drop
 pub use Rattle.uc_model.specs.Data.{ThermalUnit, Schedule, NamedThermalUnit, NamedRenewableUnit, NamedBidUnit}
 pub use Rattle.uc_model.specs.Data.{AnyUnit, Thermal, Flat, Bid, RenewableUnit, BidUnit, Market, units, unit_count}
 pub use Rattle.uc_model.specs.Earnings.{supply_in, cost_of, worth_of}
-pub use Rattle.uc_model.specs.Laws.{HasPlanShape, RefusalsAreExact}
+pub use Rattle.uc_model.specs.Laws.{HasPlanShape, FeasibleExactlyWithoutBrokenRule}
 pub use Rattle.plain_lists.specs.Ranges.{IsFrom}
 pub use Rattle.uc_model.specs.Limits.{IsThermalUnit, Spans, IsBlockList, IsBidUnit, IsPower, IsRenewableUnit}
 pub use Rattle.uc_model.specs.PlainCases.{market_of, schedules_of}

@@ -4,7 +4,8 @@ use Rattle.plan_check.proofs.Common.{◌∷◌, ◌++◌, map, length, drop, ref
 use Rattle.plan_check.proofs.Common.{length-drop, ints, drop-drop, All-drop, All, AllZip, int_le, slice_get}
 use Rattle.plan_check.proofs.Common.{slice_index_or, Refusal, RenewableRange, BidRange, Balance, Reserve, AnyUnit}
 use Rattle.plan_check.proofs.Common.{Thermal, Flat, Bid, NamedThermalUnit, NamedRenewableUnit, NamedBidUnit}
-use Rattle.plan_check.proofs.Common.{RenewableUnit, BidUnit, Schedule, Market, units, HasPlanShape, RefusalsAreExact}
+use Rattle.plan_check.proofs.Common.{RenewableUnit, BidUnit, Schedule, Market, units, HasPlanShape}
+use Rattle.plan_check.proofs.Common.{FeasibleExactlyWithoutBrokenRule}
 use Rattle.plan_check.proofs.Common.{unless, renewable_broken, bid_broken, balance_broken, reserve_broken, told}
 use Rattle.plan_check.proofs.Common.{thermal_refusals, all_thermal, all_renewable, all_bids, refusals, power_in}
 use Rattle.plan_check.proofs.Common.{IsFeasible, IsRenewableFeasible, IsBidFeasible, width_of, blocks_at, int_at}
@@ -339,5 +340,5 @@ module _ (m : Market) (plan : List Schedule) (shape : HasPlanShape m plan) where
       (total_reserve (units m) plan k)
       (le_to_z (int_at m.reserves k) (total_reserve (units m) plan k) (f.reserve k lt))))
 
-pub refusals_are_exact : RefusalsAreExact
+pub refusals_are_exact : FeasibleExactlyWithoutBrokenRule
 refusals_are_exact = λ m plan shape. (feasible_none m plan shape, none_feasible m plan shape)

@@ -17,7 +17,7 @@ use crate::states::Sides;
 use crate::{RuleFault, costs, rules, totals};
 use uc_model::cases::{Case, Plan};
 use uc_model::kinds::{Kind, RuleCode};
-use uc_model::money::total_width;
+use uc_model::money::total_block_width;
 use uc_model::units::{Bid, Renewable, Response, Unit};
 
 // The rules of a thermal unit in the order in which they are told.
@@ -58,7 +58,12 @@ fn fault_of_rule(code: RuleCode, kind: Kind, unit: u32, period: u32, sides: Side
 }
 
 // What breaks a thermal rule at an index.
-fn thermal_sides(rule: RuleCode, unit: &Unit, response: &Response, index: usize) -> Option<Sides>
+fn thermal_violation(
+    rule: RuleCode,
+    unit: &Unit,
+    response: &Response,
+    index: usize,
+) -> Option<Sides>
     requires within { index < length (schedule_of response.now).on }
     requires horizon { length (schedule_of response.now).on ≤ MOST_PERIODS }
     requires window { length (thermal_of unit.now).window ≡ length (schedule_of response.now).on }
@@ -66,16 +71,16 @@ fn thermal_sides(rule: RuleCode, unit: &Unit, response: &Response, index: usize)
         index }
 {
     match rule {
-        RuleCode::MustRun => rules::must_run_sides(unit, response, index),
-        RuleCode::Initial => rules::initial_sides(unit, response, index),
-        RuleCode::MinUp => rules::min_up_sides(unit, response, index),
-        RuleCode::MinDown => rules::min_down_sides(unit, response, index),
-        RuleCode::Range => rules::range_sides(unit, response, index),
-        RuleCode::StartCap => rules::start_sides(unit, response, index),
-        RuleCode::StopCap => rules::stop_sides(unit, response, index),
-        RuleCode::RampUp => rules::ramp_up_sides(unit, response, index),
-        RuleCode::RampDown => rules::ramp_down_sides(unit, response, index),
-        RuleCode::Window => rules::window_sides(unit, response, index),
+        RuleCode::MustRun => rules::must_run_violation(unit, response, index),
+        RuleCode::Initial => rules::initial_state_violation(unit, response, index),
+        RuleCode::MinUp => rules::min_up_violation(unit, response, index),
+        RuleCode::MinDown => rules::min_down_violation(unit, response, index),
+        RuleCode::Range => rules::power_range_violation(unit, response, index),
+        RuleCode::StartCap => rules::start_limit_violation(unit, response, index),
+        RuleCode::StopCap => rules::stop_limit_violation(unit, response, index),
+        RuleCode::RampUp => rules::ramp_up_violation(unit, response, index),
+        RuleCode::RampDown => rules::ramp_down_violation(unit, response, index),
+        RuleCode::Window => rules::commitment_window_violation(unit, response, index),
         RuleCode::RenewableRange | RuleCode::Balance | RuleCode::Reserve | RuleCode::BidRange => {
             None
         }
@@ -83,7 +88,7 @@ fn thermal_sides(rule: RuleCode, unit: &Unit, response: &Response, index: usize)
 }
 
 // How far the period that is told lies from the place: a stop is told at the period before it.
-fn shift_of_rule(rule: RuleCode) -> u32
+fn reported_period_offset(rule: RuleCode) -> u32
     ensures value { result ≡ told_shift rule }
     ensures small { result ≤ 1 }
 {
@@ -106,8 +111,8 @@ fn check_rule(
         (thermal_of unit.now) (schedule_of response.now) rule) result }
 {
     for index in 0..response.on.len() {
-        if let Some(sides) = thermal_sides(rule, unit, response, index) {
-            let period = index as u32 + shift_of_rule(rule);
+        if let Some(sides) = thermal_violation(rule, unit, response, index) {
+            let period = index as u32 + reported_period_offset(rule);
             return Err(fault_of_rule(rule, Kind::Thermal, number, period, sides));
         }
     }
@@ -159,7 +164,7 @@ fn check_thermals(case: &Case, plan: &Plan) -> Result<(), RuleFault>
 }
 
 // What breaks the range of a renewable unit at an index: first its least power, then its greatest.
-fn renewable_sides(flat: &Renewable, response: &Response, index: usize) -> Option<Sides>
+fn renewable_range_violation(flat: &Renewable, response: &Response, index: usize) -> Option<Sides>
     requires schedule { index < length (schedule_of response.now).on }
     requires range { index < length (renewable_of flat.now).least }
     ensures { sides_of result ≡ renewable_broken (renewable_of flat.now) (schedule_of response.now)
@@ -168,9 +173,9 @@ fn renewable_sides(flat: &Renewable, response: &Response, index: usize) -> Optio
     let power = response.power_at(index);
     let least = *flat.least.get(index);
     let most = *flat.most.get(index);
-    rules::first_broken(
-        rules::sides_above_limit(least, power),
-        rules::sides_above_limit(power, most),
+    rules::first_violation(
+        rules::violation_above_limit(least, power),
+        rules::violation_above_limit(power, most),
     )
 }
 
@@ -183,7 +188,7 @@ fn check_renewable(flat: &Renewable, response: &Response, number: u32) -> Result
         (renewable_broken (renewable_of flat.now) (schedule_of response.now))) result }
 {
     for index in 0..response.on.len() {
-        if let Some(sides) = renewable_sides(flat, response, index) {
+        if let Some(sides) = renewable_range_violation(flat, response, index) {
             let period = index as u32 + 1;
             return Err(fault_of_rule(
                 RuleCode::RenewableRange,
@@ -213,14 +218,14 @@ fn check_renewables(case: &Case, plan: &Plan) -> Result<(), RuleFault>
 }
 
 // What breaks the limit of a bid at an index.
-fn bid_sides(bid: &Bid, response: &Response, index: usize) -> Option<Sides>
+fn bid_limit_violation(bid: &Bid, response: &Response, index: usize) -> Option<Sides>
     requires schedule { index < length (schedule_of response.now).on }
     requires blocks { index < length (bid_of bid.now).blocks }
     ensures { sides_of result ≡ bid_broken (bid_of bid.now) (schedule_of response.now) index }
 {
     let power = response.power_at(index);
-    let width = total_width(bid.blocks.get(index).as_slice());
-    rules::sides_above_limit(power, width)
+    let width = total_block_width(bid.blocks.get(index).as_slice());
+    rules::violation_above_limit(power, width)
 }
 
 // The first period in which a bid buys more than its blocks.
@@ -231,7 +236,7 @@ fn check_bid(bid: &Bid, response: &Response, number: u32) -> Result<(), RuleFaul
         (bid_broken (bid_of bid.now) (schedule_of response.now))) result }
 {
     for index in 0..response.on.len() {
-        if let Some(sides) = bid_sides(bid, response, index) {
+        if let Some(sides) = bid_limit_violation(bid, response, index) {
             let period = index as u32 + 1;
             return Err(fault_of_rule(RuleCode::BidRange, Kind::Bid, number, period, sides));
         }
@@ -262,7 +267,7 @@ fn check_balance(case: &Case, plan: &Plan) -> Result<(), RuleFault>
         (balance_broken (market_of case.now) (schedules_of plan.now))) result }
 {
     for index in 0..case.periods {
-        if let Some(sides) = totals::balance_sides(case, plan, index as usize) {
+        if let Some(sides) = totals::power_balance_violation(case, plan, index as usize) {
             return Err(fault_of_rule(RuleCode::Balance, Kind::Case, 0, index + 1, sides));
         }
     }
@@ -276,7 +281,7 @@ fn check_reserve(case: &Case, plan: &Plan) -> Result<(), RuleFault>
         (reserve_broken (market_of case.now) (schedules_of plan.now))) result }
 {
     for index in 0..case.periods {
-        if let Some(sides) = totals::reserve_sides(case, plan, index as usize) {
+        if let Some(sides) = totals::reserve_requirement_violation(case, plan, index as usize) {
             return Err(fault_of_rule(RuleCode::Reserve, Kind::Case, 0, index + 1, sides));
         }
     }

@@ -17,13 +17,18 @@ ghost use Rattle.plan_check.specs.Costs.{sum_over, thermal_units, bid_units, pro
 ghost use Rattle.plan_check.specs.Costs.{start_cost_at};
 
 use crate::rules;
-use cost_curve::costs::{Leg, envelope_from_leg};
+use cost_curve::costs::{EnvelopePiece, envelope_cost_with_cached_piece};
 use uc_model::cases::{Case, Plan};
 use uc_model::rules::start_cost;
 use uc_model::units::{Bid, Block, Response, Unit};
 
 // What the power at an index costs. `near` has the leg of the power before it.
-fn power_cost(unit: &Unit, response: &Response, index: usize, near: &mut Option<Leg>) -> i64
+fn power_cost(
+    unit: &Unit,
+    response: &Response,
+    index: usize,
+    near: &mut Option<EnvelopePiece>,
+) -> i64
     requires near { IsNear (thermal_of unit.now).points near.old }
     requires within { index < length (schedule_of response.now).on }
     requires feasible { IsThermalFeasible (thermal_of unit.now)
@@ -35,7 +40,7 @@ fn power_cost(unit: &Unit, response: &Response, index: usize, near: &mut Option<
     if !response.is_on(index) {
         return 0;
     }
-    envelope_from_leg(unit.points.as_slice(), response.power_at(index), near)
+    envelope_cost_with_cached_piece(unit.points.as_slice(), response.power_at(index), near)
 }
 
 /// What the powers of a schedule cost.
@@ -113,7 +118,7 @@ struct Bought {
 }
 
 // What is bought with one more block.
-fn bought_with_block(bought: Bought, block: &Block) -> Bought
+fn purchase_with_next_block(bought: Bought, block: &Block) -> Bought
     requires block { IsBlock block.now }
     requires worth { IsFrom (pos 0) (pos 900000000000000000) bought.worth }
     requires rest { IsFrom (pos 0) (pos 4294967296) bought.rest }
@@ -131,7 +136,7 @@ fn bought_with_block(bought: Bought, block: &Block) -> Bought
 }
 
 // What so many kilowatts are worth.
-fn worth_of_power(blocks: &[Block], power: i64) -> i64
+fn worth_of_bought_power(blocks: &[Block], power: i64) -> i64
     requires blocks { IsBlockList blocks.now }
     requires power { IsFrom (pos 0) (pos 4294967296) power }
     ensures value { result ≡ worth_of blocks.now power }
@@ -142,7 +147,7 @@ fn worth_of_power(blocks: &[Block], power: i64) -> i64
         rest: power,
     };
     for block in blocks {
-        bought = bought_with_block(bought, block);
+        bought = purchase_with_next_block(bought, block);
     }
     bought.worth
 }
@@ -157,7 +162,7 @@ pub fn worth_of_bid(bid: &Bid, response: &Response) -> i128
     let mut sum = 0;
     for index in 0..response.on.len() {
         let blocks = bid.blocks.get(index).as_slice();
-        sum += i128::from(worth_of_power(blocks, response.power_at(index)));
+        sum += i128::from(worth_of_bought_power(blocks, response.power_at(index)));
     }
     sum
 }

@@ -18,7 +18,7 @@ use crate::states::{Sides, State};
 use uc_model::units::{Mark, Response, Unit};
 
 /// The numbers where a test fails.
-pub fn sides_where_false(holds: bool, left: i64, right: i64) -> Option<Sides>
+pub fn violation_unless_test_holds(holds: bool, left: i64, right: i64) -> Option<Sides>
     ensures { sides_of result ≡ refusals.unless holds left right }
 {
     if holds {
@@ -29,10 +29,10 @@ pub fn sides_where_false(holds: bool, left: i64, right: i64) -> Option<Sides>
 }
 
 /// The numbers where a value is above its limit.
-pub fn sides_above_limit(value: i64, limit: i64) -> Option<Sides>
+pub fn violation_above_limit(value: i64, limit: i64) -> Option<Sides>
     ensures { sides_of result ≡ refusals.unless (int_le value limit) value limit }
 {
-    sides_where_false(value <= limit, value, limit)
+    violation_unless_test_holds(value <= limit, value, limit)
 }
 
 /// Whether the unit is on in a period; period 0 is the state before the horizon.
@@ -110,17 +110,17 @@ fn state_in_period(unit: &Unit, response: &Response, period: usize) -> State
 }
 
 /// A must-run unit is on.
-pub fn must_run_sides(unit: &Unit, response: &Response, index: usize) -> Option<Sides>
+pub fn must_run_violation(unit: &Unit, response: &Response, index: usize) -> Option<Sides>
     requires { index < length (schedule_of response.now).on }
     ensures { sides_of result ≡ must_run_broken (thermal_of unit.now) (schedule_of response.now)
         index }
 {
     let on = state_at(unit, response, index).on;
-    sides_where_false(!(unit.must_run && !on), 0, 1)
+    violation_unless_test_holds(!(unit.must_run && !on), 0, 1)
 }
 
 // The periods from 1 on in which the unit stays as it was before.
-fn initial_time(unit: &Unit) -> u32
+fn periods_held_in_initial_state(unit: &Unit) -> u32
     ensures { result ≡ (if unit.now.on0 then unit.now.min_up - unit.now.up0 else unit.now.min_down
         - unit.now.down0) }
 {
@@ -132,20 +132,20 @@ fn initial_time(unit: &Unit) -> u32
 }
 
 /// A unit stays as it was before the horizon until its minimum time is over.
-pub fn initial_sides(unit: &Unit, response: &Response, index: usize) -> Option<Sides>
+pub fn initial_state_violation(unit: &Unit, response: &Response, index: usize) -> Option<Sides>
     requires { index < length (schedule_of response.now).on }
     ensures { sides_of result ≡ initial_broken (thermal_of unit.now) (schedule_of response.now)
         index }
 {
-    if initial_time(unit) as usize <= index {
+    if periods_held_in_initial_state(unit) as usize <= index {
         return None;
     }
     let on = on_in_period(unit, response, index + 1);
-    sides_where_false(unit.on0 == on, i64::from(on), i64::from(unit.on0))
+    violation_unless_test_holds(unit.on0 == on, i64::from(on), i64::from(unit.on0))
 }
 
 // The start or stop since which the unit is as it is in a period, where one lies in the horizon.
-fn change_before(unit: &Unit, response: &Response, period: usize) -> Option<usize>
+fn last_change_before_period(unit: &Unit, response: &Response, period: usize) -> Option<usize>
     requires { period ≤ length (schedule_of response.now).on }
     ensures { result ≡ changed_in (thermal_of unit.now) (schedule_of response.now) period }
 {
@@ -161,7 +161,7 @@ fn change_before(unit: &Unit, response: &Response, period: usize) -> Option<usiz
 }
 
 // A run that a change in the horizon began is as long as the minimum time.
-fn run_sides(since: Option<usize>, end: usize, minimum: u32) -> Option<Sides>
+fn minimum_run_violation(since: Option<usize>, end: usize, minimum: u32) -> Option<Sides>
     requires { end < 1000 }
     ensures { sides_of result ≡ run_broken since end minimum }
 {
@@ -169,13 +169,13 @@ fn run_sides(since: Option<usize>, end: usize, minimum: u32) -> Option<Sides>
         None => None,
         Some(start) => {
             let run = end.saturating_sub(start);
-            sides_where_false(minimum as usize <= run, run as i64, i64::from(minimum))
+            violation_unless_test_holds(minimum as usize <= run, run as i64, i64::from(minimum))
         }
     }
 }
 
 /// A unit that started in the horizon stops only after its minimum time up.
-pub fn min_up_sides(unit: &Unit, response: &Response, index: usize) -> Option<Sides>
+pub fn min_up_violation(unit: &Unit, response: &Response, index: usize) -> Option<Sides>
     requires within { index < length (schedule_of response.now).on }
     requires horizon { length (schedule_of response.now).on ≤ MOST_PERIODS }
     ensures { sides_of result ≡ min_up_broken (thermal_of unit.now) (schedule_of response.now)
@@ -184,11 +184,15 @@ pub fn min_up_sides(unit: &Unit, response: &Response, index: usize) -> Option<Si
     if !stops_at(unit, response, index) {
         return None;
     }
-    run_sides(change_before(unit, response, index), index + 1, unit.min_up)
+    minimum_run_violation(
+        last_change_before_period(unit, response, index),
+        index + 1,
+        unit.min_up,
+    )
 }
 
 /// A unit that stopped in the horizon starts only after its minimum time down.
-pub fn min_down_sides(unit: &Unit, response: &Response, index: usize) -> Option<Sides>
+pub fn min_down_violation(unit: &Unit, response: &Response, index: usize) -> Option<Sides>
     requires within { index < length (schedule_of response.now).on }
     requires horizon { length (schedule_of response.now).on ≤ MOST_PERIODS }
     ensures { sides_of result ≡ min_down_broken (thermal_of unit.now) (schedule_of response.now)
@@ -197,15 +201,15 @@ pub fn min_down_sides(unit: &Unit, response: &Response, index: usize) -> Option<
     if !starts_at(unit, response, index) {
         return None;
     }
-    run_sides(
-        change_before(unit, response, index),
+    minimum_run_violation(
+        last_change_before_period(unit, response, index),
         index + 1,
         unit.min_down,
     )
 }
 
 /// The first of two broken rules.
-pub fn first_broken(first: Option<Sides>, second: Option<Sides>) -> Option<Sides>
+pub fn first_violation(first: Option<Sides>, second: Option<Sides>) -> Option<Sides>
     ensures { sides_of result ≡ or_else (sides_of first) (sides_of second) }
 {
     match first {
@@ -216,7 +220,7 @@ pub fn first_broken(first: Option<Sides>, second: Option<Sides>) -> Option<Sides
 
 /// An on unit gives at least its least power, and with reserve at most its greatest; an off unit
 /// gives nothing.
-pub fn range_sides(unit: &Unit, response: &Response, index: usize) -> Option<Sides>
+pub fn power_range_violation(unit: &Unit, response: &Response, index: usize) -> Option<Sides>
     requires { index < length (schedule_of response.now).on }
     ensures { sides_of result ≡ range_broken (thermal_of unit.now) (schedule_of response.now)
         index }
@@ -224,14 +228,14 @@ pub fn range_sides(unit: &Unit, response: &Response, index: usize) -> Option<Sid
     let power = response.power_at(index);
     let now = state_at(unit, response, index);
     if now.on {
-        return first_broken(
-            sides_above_limit(unit.min_power, power),
-            sides_above_limit(now.output, unit.max_power),
+        return first_violation(
+            violation_above_limit(unit.min_power, power),
+            violation_above_limit(now.output, unit.max_power),
         );
     }
-    first_broken(
-        sides_above_limit(power, 0),
-        sides_above_limit(now.reserve, 0),
+    first_violation(
+        violation_above_limit(power, 0),
+        violation_above_limit(now.reserve, 0),
     )
 }
 
@@ -243,7 +247,7 @@ fn limit_within_capacity(unit: &Unit, limit: i64) -> i64
 }
 
 /// In a start period the output is within the start limit.
-pub fn start_sides(unit: &Unit, response: &Response, index: usize) -> Option<Sides>
+pub fn start_limit_violation(unit: &Unit, response: &Response, index: usize) -> Option<Sides>
     requires { index < length (schedule_of response.now).on }
     ensures { sides_of result ≡ start_broken (thermal_of unit.now) (schedule_of response.now)
         index }
@@ -255,11 +259,11 @@ pub fn start_sides(unit: &Unit, response: &Response, index: usize) -> Option<Sid
     if !now.on {
         return None;
     }
-    sides_above_limit(now.output, limit_within_capacity(unit, unit.start_limit))
+    violation_above_limit(now.output, limit_within_capacity(unit, unit.start_limit))
 }
 
 /// In the last on period before a stop the output is within the stop limit.
-pub fn stop_sides(unit: &Unit, response: &Response, period: usize) -> Option<Sides>
+pub fn stop_limit_violation(unit: &Unit, response: &Response, period: usize) -> Option<Sides>
     requires { period < length (schedule_of response.now).on }
     ensures { sides_of result ≡ stop_broken (thermal_of unit.now) (schedule_of response.now)
         period }
@@ -271,7 +275,7 @@ pub fn stop_sides(unit: &Unit, response: &Response, period: usize) -> Option<Sid
     if state_at(unit, response, period).on {
         return None;
     }
-    sides_above_limit(last.output, limit_within_capacity(unit, unit.stop_limit))
+    violation_above_limit(last.output, limit_within_capacity(unit, unit.stop_limit))
 }
 
 // How far the power with reserve rises above the power of the period before.
@@ -298,27 +302,27 @@ fn power_fall_at(unit: &Unit, response: &Response, index: usize) -> i64
 }
 
 /// The power with reserve rises by at most the ramp.
-pub fn ramp_up_sides(unit: &Unit, response: &Response, index: usize) -> Option<Sides>
+pub fn ramp_up_violation(unit: &Unit, response: &Response, index: usize) -> Option<Sides>
     requires { index < length (schedule_of response.now).on }
     ensures { sides_of result ≡ ramp_up_broken (thermal_of unit.now) (schedule_of response.now)
         index }
 {
     let rise = power_rise_at(unit, response, index);
-    sides_above_limit(rise, unit.ramp_up)
+    violation_above_limit(rise, unit.ramp_up)
 }
 
 /// The power falls by at most the ramp.
-pub fn ramp_down_sides(unit: &Unit, response: &Response, index: usize) -> Option<Sides>
+pub fn ramp_down_violation(unit: &Unit, response: &Response, index: usize) -> Option<Sides>
     requires { index < length (schedule_of response.now).on }
     ensures { sides_of result ≡ ramp_down_broken (thermal_of unit.now) (schedule_of response.now)
         index }
 {
     let fall = power_fall_at(unit, response, index);
-    sides_above_limit(fall, unit.ramp_down)
+    violation_above_limit(fall, unit.ramp_down)
 }
 
 /// A unit is on where its window says so, and off where it says so.
-pub fn window_sides(unit: &Unit, response: &Response, index: usize) -> Option<Sides>
+pub fn commitment_window_violation(unit: &Unit, response: &Response, index: usize) -> Option<Sides>
     requires within { index < length (schedule_of response.now).on }
     requires window { length (thermal_of unit.now).window ≡ length (schedule_of response.now).on }
     ensures { sides_of result ≡ window_broken (thermal_of unit.now) (schedule_of response.now)
@@ -327,7 +331,7 @@ pub fn window_sides(unit: &Unit, response: &Response, index: usize) -> Option<Si
     let on = on_in_period(unit, response, index + 1);
     match *unit.window.get(index) {
         Mark::Free => None,
-        Mark::MustOff => sides_where_false(!on, 1, 0),
-        Mark::MustOn => sides_where_false(on, 0, 1),
+        Mark::MustOff => violation_unless_test_holds(!on, 1, 0),
+        Mark::MustOn => violation_unless_test_holds(on, 0, 1),
     }
 }

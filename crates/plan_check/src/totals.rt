@@ -82,7 +82,7 @@ pub fn net_power(case: &Case, plan: &Plan, index: usize) -> i64
 }
 
 /// What keeps the powers from summing to demand at an index.
-pub(crate) fn balance_sides(case: &Case, plan: &Plan, index: usize) -> Option<Sides>
+pub(crate) fn power_balance_violation(case: &Case, plan: &Plan, index: usize) -> Option<Sides>
     requires shape { HasPlanShape (market_of case.now) (schedules_of plan.now) }
     requires within { index < (market_of case.now).periods }
     ensures { sides_of result ≡ balance_broken (market_of case.now) (schedules_of plan.now) index }
@@ -108,7 +108,7 @@ pub struct Reserves {
 }
 
 /// The reserves of period `index + 1`.
-pub fn reserves_in(case: &Case, plan: &Plan, index: usize) -> Reserves
+pub fn required_and_given_reserve(case: &Case, plan: &Plan, index: usize) -> Reserves
     requires shape { HasPlanShape (market_of case.now) (schedules_of plan.now) }
     requires within { index < (market_of case.now).periods }
     ensures required { result.required ≡ int_at (market_of case.now).reserves index }
@@ -125,11 +125,11 @@ pub fn reserves_in(case: &Case, plan: &Plan, index: usize) -> Reserves
 }
 
 /// What the reserves lack at an index.
-pub(crate) fn reserve_sides(case: &Case, plan: &Plan, index: usize) -> Option<Sides>
+pub(crate) fn reserve_requirement_violation(case: &Case, plan: &Plan, index: usize) -> Option<Sides>
     requires shape { HasPlanShape (market_of case.now) (schedules_of plan.now) }
     requires within { index < (market_of case.now).periods }
     ensures { sides_of result ≡ reserve_broken (market_of case.now) (schedules_of plan.now) index }
 {
-    let reserves = reserves_in(case, plan, index);
-    rules::sides_above_limit(reserves.required, reserves.given)
+    let reserves = required_and_given_reserve(case, plan, index);
+    rules::violation_above_limit(reserves.required, reserves.given)
 }

@@ -2,7 +2,7 @@
 use Rattle.plan_settle.proofs.Common.{◌≡◌, ℕ, zero, suc, ◌+◌, ℤ, Some, List, [], ◌∷◌, ◌++◌, take, refl, sym, ap, ◌∙◌}
 use Rattle.plan_settle.proofs.Common.{subst, arith, All, AllZip, slice_get, none_some, same_item, zip_with, AnyUnit}
 use Rattle.plan_settle.proofs.Common.{PriceLists, Schedule, Market, units, earnings, Fits, schedule_of, Answered}
-use Rattle.plan_settle.proofs.Common.{IsAnswerAt, AreAnswersTo, take_all, unit_count, UnitsAreNumbered, all_nil}
+use Rattle.plan_settle.proofs.Common.{IsAnswerAt, AreAnswersTo, take_all, unit_count, UnitNumbersGoByKind, all_nil}
 use Rattle.plan_settle.proofs.Common.{all_cons, head_of, tail_of}
 use Rattle.std.proofs.lemmas.Slice.Zip.{all_zipped_more}
 use Rattle.uc_model.specs.declared.units.Flow.{Flow}
@@ -54,7 +54,7 @@ pub record AreAll (m : Market) (π : PriceLists) (rs : List Schedule) (es : List
   pub fit : AllZip (λ u r. Fits u π r) (units m) rs
   pub earned : es ≡ zip_with (λ u r. earnings u π r) (units m) rs
 
-pub whole_answers : UnitsAreNumbered → (m : Market) (π : PriceLists) (rs : List Schedule) (es : List ℤ) →
+pub whole_answers : UnitNumbersGoByKind → (m : Market) (π : PriceLists) (rs : List Schedule) (es : List ℤ) →
     AreAnswersTo m π (unit_count m) rs es → AreAll m π rs es
 whole_answers numbered m π rs es h =
     let count = (numbered m).count in

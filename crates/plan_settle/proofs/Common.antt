@@ -18,7 +18,7 @@ pub use Rattle.uc_model.specs.Limits.{IsEarned, IsSum, IsUnit, IsMarket, ArePric
 pub use Rattle.uc_model.specs.PlainCases.{market_of, schedules_of, proposal_of}
 pub use Rattle.uc_model.specs.PlainUnits.{prices_of, schedule_of, named_thermal_of, named_renewable_of, named_bid_of}
 pub use Rattle.uc_model.specs.PlainUnits.{thermal_of}
-pub use Rattle.uc_model.specs.PlanLaws.{UnitsAreNumbered}
+pub use Rattle.uc_model.specs.PlanLaws.{UnitNumbersGoByKind}
 pub use Rattle.uc_model.specs.PriceRule.{Proposal, chosen_number}
 pub use Rattle.uc_model.specs.Runs.{Fits}
 pub use Rattle.uc_model.specs.Schedules.{IsFeasible, reserve_in, on_in, mark_in, IsPeriod, IsThermalFeasible}
@@ -36,10 +36,10 @@ pub use Rattle.plain_lists.specs.Reserved.{items_in}
 pub use Rattle.board_core.specs.Boards.{kept_answer}
 pub use Rattle.board_core.specs.Setups.{IsSetup}
 pub use Rattle.board_store.specs.Board.{Content, IsLegalHistory}
-pub use Rattle.board_store.specs.Bounds.{RowsAreWithin}
+pub use Rattle.board_store.specs.Bounds.{RowsOfHistoryAreWithinLimits}
 pub use Rattle.board_store.specs.Calls.{own_rows, has_finished}
 pub use Rattle.board_store.specs.Laws.{FinishedHasRow}
 pub use Rattle.plan_settle.specs.Ended.{IsEnded}
 pub use Rattle.right_report.specs.Laws.{OneIsChosen}
-pub use Rattle.right_report.specs.RecordReport.{SettlementsAreOfAllUnits, IsSettledRecord, AnswersAreTops}
+pub use Rattle.right_report.specs.RecordReport.{SettlementHasEntryForEachUnit, IsSettledRecord, AnswersToRowEarnTheMost}
 pub use Rattle.price_settle.specs.declared.settlement.Settlement.{Settlement}

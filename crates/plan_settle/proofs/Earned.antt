@@ -3,7 +3,7 @@ use Rattle.plan_settle.proofs.Common.{◌≡◌, ℤ, List, [], ◌∷◌, lengt
 use Rattle.plan_settle.proofs.Common.{AllZip, all_nil, all_cons, zip_with, AnyUnit, PriceLists, Schedule, IsTop}
 use Rattle.plan_settle.proofs.Common.{earnings, IsEarned, IsUnit, ArePrices, Fits, head_of, tail_of}
 use Rattle.plan_settle.proofs.Common.{Market, units, unit_count, length_same}
-use Rattle.plan_settle.proofs.Common.{length-zip_with, UnitsAreNumbered}
+use Rattle.plan_settle.proofs.Common.{length-zip_with, UnitNumbersGoByKind}
 use Rattle.uc_model.specs.BoundLaws.{EarningsAreWithin}
 use Rattle.plan_settle.proofs.Answered.{AreAll}
 
@@ -26,7 +26,8 @@ all_earned law π prices (u ∷ us) (r ∷ rs) limits z =
     (all_earned law π prices us rs (tail_of IsUnit u us limits) z.1)
 
 -- as many as units
-pub count_of : UnitsAreNumbered → (m : Market) (π : PriceLists) (rs : List Schedule) (es : List ℤ) → AreAll m π rs es →
+pub count_of : UnitNumbersGoByKind → (m : Market) (π : PriceLists) (rs : List Schedule) (es : List ℤ) → AreAll m π rs
+    es →
     length es ≡ unit_count m
 count_of numbered m π rs es h =
     ap length h.earned ∙ length-zip_with (λ u r. earnings u π r) (units m) rs

@@ -11,7 +11,7 @@ use Rattle.uc_model.specs.Earnings.{cost_of, earnings, supply_in, IsTop}
 use Rattle.uc_model.specs.Laws.{DualIsAtMostCost}
 use Rattle.uc_model.specs.Limits.{IsThermalUnit, IsMarket}
 use Rattle.uc_model.specs.Systems.{IsFeasiblePlan, plan_cost, IsDualValue}
-use Rattle.plan_settle.specs.HeldLaws.{CommitmentsAreFixed}
+use Rattle.plan_settle.specs.HeldLaws.{PlanStaysFeasibleWithFixedCommitments}
 use Rattle.plan_check.proofs.UnitsApart.{any_thermal, others, apart, plan_apart}
 use Rattle.plan_settle.proofs.Held.{held_feasible, given_feasible}
 
@@ -215,7 +215,7 @@ dual_rises m plan π value fixed f horizon dual held =
     let b = held.is in
     omega (arith, ints, less, a, b)
 
-pub fixing : DualIsAtMostCost → CommitmentsAreFixed
+pub fixing : DualIsAtMostCost → PlanStaysFeasibleWithFixedCommitments
 fixing law m plan h f =
     let points = points_stay m.periods m.thermal (others m) plan (plan_apart m m.periods plan f.feasible) in
     record {

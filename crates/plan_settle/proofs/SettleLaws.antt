@@ -3,8 +3,9 @@ use Rattle.plan_settle.proofs.Common.{◌≡◌, ℕ, suc, ◌-◌, ◌<◌, ◌
 use Rattle.plan_settle.proofs.Common.{sym, ap, ◌∙◌, subst, arith, slice_get-map, slice_get-get_or, slice_get_within}
 use Rattle.plan_settle.proofs.Common.{get_or_from_slice_get, AllZip, AnyUnit, Market, Schedule, units, unit_count}
 use Rattle.plan_settle.proofs.Common.{proposal_of, Proposal, chosen_number, int_at, IsSettled, Content, IsLegalHistory}
-use Rattle.plan_settle.proofs.Common.{own_rows, has_finished, FinishedHasRow, RowsAreWithin, kept_answer, IsSetup}
-use Rattle.plan_settle.proofs.Common.{Settlement, OneIsChosen, IsSettledRecord, AnswersAreTops}
+use Rattle.plan_settle.proofs.Common.{own_rows, has_finished, FinishedHasRow, RowsOfHistoryAreWithinLimits, kept_answer}
+use Rattle.plan_settle.proofs.Common.{IsSetup}
+use Rattle.plan_settle.proofs.Common.{Settlement, OneIsChosen, IsSettledRecord, AnswersToRowEarnTheMost}
 use Rattle.std.specs.Option.{option_map}
 use Rattle.uc_model.specs.Earnings.{IsTop}
 use Rattle.uc_model.specs.declared.cases.Row.{Row}
@@ -34,7 +35,7 @@ row_at_place c rows chosen row same inside is =
     ap (λ (r : Row). Some (proposal_of r)) (sym is)
 
 -- its prices are over the periods of the case
-pub row_is_long : RowsAreWithin → (c : Content) (chosen : ℕ) (row : Row) (m : Market) → IsSetup c.setup →
+pub row_is_long : RowsOfHistoryAreWithinLimits → (c : Content) (chosen : ℕ) (row : Row) (m : Market) → IsSetup c.setup →
     IsLegalHistory c.setup c.events → slice_get (own_rows c) (chosen - 1) ≡ Some (proposal_of row) →
     m ≡ c.setup.market →
     length row.prices.energy.items ≡ m.periods
@@ -46,7 +47,7 @@ row_is_long rows_are_within c chosen row m setup legal is same =
     within ∙ sym (ap (λ (n : Market). n.periods) same)
 
 -- what the units earn at best
-pub tops_for : AnswersAreTops → (c : Content) (chosen : ℕ) (row : Proposal) (m : Market) (earned xs : List ℤ) →
+pub tops_for : AnswersToRowEarnTheMost → (c : Content) (chosen : ℕ) (row : Proposal) (m : Market) (earned xs : List ℤ) →
     IsSetup c.setup → IsLegalHistory c.setup c.events → IsPlace c chosen →
     slice_get (own_rows c) (chosen - 1) ≡ Some row → length earned ≡ unit_count c.setup.market →
     ((u : ℕ) → u < unit_count c.setup.market → int_at earned u ≡ (kept_answer c chosen u).earned) → m ≡ c.setup.market →

@@ -1,20 +1,21 @@
 -- The sides of `hull fixed`.
 use Rattle.plan_settle.proofs.Common.{◌≡◌, List, length, sym, ap, ◌∙◌, subst, same_Some, All, IsSetup, Content, Market}
 use Rattle.plan_settle.proofs.Common.{PriceLists, Schedule, unit_count, IsMarket, prices_of, Proposal, IsFeasiblePlan}
-use Rattle.plan_settle.proofs.Common.{IsSettled, Settlement, IsBenchOver, SettlementsAreOfAllUnits, IsEnded}
+use Rattle.plan_settle.proofs.Common.{IsSettled, Settlement, IsBenchOver, SettlementHasEntryForEachUnit, IsEnded}
 use Rattle.uc_model.specs.declared.units.Point.{Point}
 use Rattle.unit_program.specs.Benches.{IsBenchFor}
 use Rattle.unit_program.specs.declared.bench.Bench.{Bench}
 use Rattle.plan_settle.specs.FixedCase.{fixed_market}
-use Rattle.plan_settle.specs.HeldLaws.{CommitmentsAreFixed}
-use Rattle.right_report.specs.RightSide.{told_of, IsRightSide, TellsChoice, SettledSidesAreRight}
+use Rattle.plan_settle.specs.HeldLaws.{PlanStaysFeasibleWithFixedCommitments}
+use Rattle.right_report.specs.RightSide.{told_of, IsRightSide, TellsChoice, SettledSidesOfFixedReportAreRight}
 use Rattle.right_report.specs.declared.side.Side.{Side}
 use Rattle.plan_settle.specs.declared.done.Done.{Done}
 
 -- ---- the bench of a run
 
 -- a bench for the case that a run was of suffices for the case whose commitments it holds
-pub bench_over_given : CommitmentsAreFixed → (given held : Market) (plan : List Schedule) (b : Bench) → IsMarket given →
+pub bench_over_given : PlanStaysFeasibleWithFixedCommitments → (given held : Market) (plan : List Schedule) (b : Bench)
+    → IsMarket given →
     IsFeasiblePlan given plan → held ≡ fixed_market given plan → IsBenchOver held b → IsBenchOver given b
 bench_over_given law given held plan b limits feasible same h =
     subst (λ (pss : List (List Point)). All (λ (ps : List Point). IsBenchFor given.periods (length ps) b) pss)
@@ -31,7 +32,8 @@ settlement_at m plan π ρ s t e f h =
     (subst (λ (p : PriceLists). IsSettled m plan p s.scheduled.items s.payments.items s.surplus s.total) e h)
 
 -- a run that has ended, with what it chose, is a right side
-pub own_right : SettledSidesAreRight → SettlementsAreOfAllUnits → (d : Done) (s : Side) → IsEnded d.closed.setup d →
+pub own_right : SettledSidesOfFixedReportAreRight → SettlementHasEntryForEachUnit → (d : Done) (s : Side) → IsEnded
+    d.closed.setup d →
     IsSetup d.closed.setup → TellsChoice d.closed s → s.settlement ≡ d.settlement
     → IsRightSide d.closed.setup.market d.closed.setup.market d.closed.setup.plan d.closed.setup.budget
     d.closed.setup.ahead (told_of s) × (length s.settlement.payments.items ≡ unit_count d.closed.setup.market)
@@ -47,7 +49,8 @@ own_right right lengths d s ended setup choice same =
     )
 
 -- the schedule of a record, settled at what the record chose, is a right side of the case as given
-pub held_right : SettledSidesAreRight → SettlementsAreOfAllUnits → (given : Market) (d : Done) (s : Side) →
+pub held_right : SettledSidesOfFixedReportAreRight → SettlementHasEntryForEachUnit → (given : Market) (d : Done)
+    (s : Side) →
     IsFeasiblePlan given d.closed.setup.plan → IsEnded d.closed.setup d → IsSetup d.closed.setup
     → TellsChoice d.closed s → IsSettled given d.closed.setup.plan (prices_of s.prices) s.settlement.scheduled.items
     s.settlement.payments.items s.settlement.surplus s.settlement.total
@@ -71,7 +74,7 @@ choice_stays c s t h = record {
 }
 
 -- the same where the settlement of the side has just been written
-pub held_side : SettledSidesAreRight → SettlementsAreOfAllUnits →
+pub held_side : SettledSidesOfFixedReportAreRight → SettlementHasEntryForEachUnit →
     (given : Market) (plan : List Schedule) (d : Done) (s : Side) (t : Settlement) →
     IsFeasiblePlan given d.closed.setup.plan → IsEnded d.closed.setup d → IsSetup d.closed.setup
     → TellsChoice d.closed s → plan ≡ d.closed.setup.plan →
@@ -85,7 +88,8 @@ held_side right lengths given plan d s t feasible ended setup choice same settle
     t.total) same settled)
 
 -- a settlement of the run with commitments held has a number for each unit of the case as given
-pub held_lengths : SettlementsAreOfAllUnits → CommitmentsAreFixed → (given : Market) (d : Done) (t : Settlement) →
+pub held_lengths : SettlementHasEntryForEachUnit → PlanStaysFeasibleWithFixedCommitments → (given : Market) (d : Done)
+    (t : Settlement) →
     IsMarket given → IsFeasiblePlan given d.closed.setup.plan → IsEnded d.closed.setup d
     → d.closed.setup.market ≡ fixed_market given d.closed.setup.plan → t ≡ d.settlement →
     (length t.scheduled.items ≡ unit_count given) × (length t.payments.items ≡ unit_count given)

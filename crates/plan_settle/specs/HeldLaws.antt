@@ -10,8 +10,8 @@ use Rattle.plan_settle.specs.FixedCase.{held_unit, fixed_market}
 
 -- a schedule is feasible for the held unit exactly where it is feasible for the unit as given and
 -- has the commitment that is held
-abbrev pub HeldSchedulesAreThose : Type 0
-HeldSchedulesAreThose =
+abbrev pub SchedulesOfFixedUnitKeepItsCommitment : Type 0
+SchedulesOfFixedUnitKeepItsCommitment =
     (g : ThermalUnit) (n : ℕ) (held s : Schedule) → IsThermalFeasible g n held →
     IsThermalFeasible (held_unit g held) n s ↔ (IsThermalFeasible g n s × (s.on ≡ held.on))
 
@@ -30,6 +30,6 @@ pub record IsFixing (m : Market) (plan : List Schedule) : Type 0 where
   pub at_most : (π : PriceLists) (fixed : ℤ) → ArePrices π → length π.energy ≡ m.periods →
       IsDualValue (fixed_market m plan) π fixed → fixed ≤ℤ plan_cost m plan
 
-abbrev pub CommitmentsAreFixed : Type 0
-CommitmentsAreFixed =
+abbrev pub PlanStaysFeasibleWithFixedCommitments : Type 0
+PlanStaysFeasibleWithFixedCommitments =
     (m : Market) (plan : List Schedule) → IsMarket m → IsFeasiblePlan m plan → IsFixing m plan

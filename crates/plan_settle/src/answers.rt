@@ -11,13 +11,13 @@ use crate::room::Spare;
 use plain_lists::lists::Numbers;
 use uc_model::cases::Case;
 use uc_model::units::{Prices, ResponseList};
-use unit_program::case_laws::units_can_answer;
-use unit_program::{Bench, answer_numbered_unit};
+use unit_program::case_laws::feasible_units_can_answer;
+use unit_program::{Bench, write_best_response_of_numbered_unit};
 
 /// Leaves the least best response of each unit and bid at the prices in `responses`, and what it
 /// earns in money in `earned`, in the order of the units' numbers. Both lists have room for them.
 /// Each answer is written over a spare one, of which there is one for each unit. Takes no memory.
-pub fn answer_all(
+pub fn answer_each_unit_at_prices(
     bench: &mut Bench,
     case: &Case,
     prices: &Prices,
@@ -39,13 +39,13 @@ pub fn answer_all(
         earned.new.items }
     ensures bench { IsBenchOver (market_of case.now) bench.new }
 {
-    units_can_answer();
+    feasible_units_can_answer();
     let Spare { mut answers, last } = spare;
     for number in 0..case.unit_count() as usize {
         let Some(mut answer) = answers.pop() else {
             return;
         };
-        answer_numbered_unit(bench, &last, case, prices, number, &mut answer);
+        write_best_response_of_numbered_unit(bench, &last, case, prices, number, &mut answer);
         earned.push(answer.earned);
         responses.push(answer.response);
     }

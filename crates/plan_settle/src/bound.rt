@@ -8,7 +8,9 @@ ghost use Rattle.right_report.specs.RecordReport.{chosen_of};
 
 use crate::done::Done;
 use board_core::Closed;
-use board_store::laws::{finished_has_row, finished_is_run, rows_are_within};
+use board_store::laws::{
+    finished_has_row, finished_history_is_whole_run, rows_of_history_are_within_limits,
+};
 use gap_proof::{Certified, best_range};
 use plain_lists::lists::Amounts;
 use right_report::laws::one_row_is_chosen;
@@ -26,7 +28,11 @@ pub struct Bounded {
 
 /// The best bound round the chosen row of a finished record. `work` has two numbers for each
 /// period, and is left with any numbers. Takes no memory.
-pub fn best_bound(closed: &Closed, radius: i64, work: &mut Amounts) -> Certified
+pub fn best_bound_around_chosen_prices(
+    closed: &Closed,
+    radius: i64,
+    work: &mut Amounts,
+) -> Certified
     requires finished { has_finished closed.now ≡ true }
     requires radius { IsRadius radius }
     requires work { length work.old.items ≡ 2 * closed.now.setup.market.periods }
@@ -35,8 +41,8 @@ pub fn best_bound(closed: &Closed, radius: i64, work: &mut Amounts) -> Certified
     ensures told { IsTold result.bound }
 {
     finished_has_row();
-    finished_is_run();
-    rows_are_within();
+    finished_history_is_whole_run();
+    rows_of_history_are_within_limits();
     one_row_is_chosen();
     best_range(closed.case(), closed.rows(), closed.chosen(), radius, work)
 }

@@ -10,17 +10,17 @@ ghost use Rattle.plain_lists.specs.Sums.{int_at};
 ghost use Rattle.right_report.specs.RecordReport.{IsSettledRecord};
 
 use board_core::Closed;
-use board_store::laws::{finished_has_row, rows_are_within};
+use board_store::laws::{finished_has_row, rows_of_history_are_within_limits};
 use plain_lists::lists::Numbers;
 use price_settle::{Settlement, settle};
-use right_report::laws::{answers_are_tops, one_row_is_chosen};
+use right_report::laws::{answers_to_row_earn_the_most, one_row_is_chosen};
 use std::alloc::{AllocError, Global};
 use uc_model::cases::Case;
 use uc_model::units::Answered;
 
 /// Room for an answer over the horizon of a case, for a settlement of its units, and for what each
 /// of them earns.
-pub fn chosen_room(
+pub fn make_settlement_buffers_of_run(
     alloc: Global,
     case: &Case,
 ) -> Result<(Answered, Settlement, Numbers), AllocError>
@@ -42,7 +42,7 @@ pub fn chosen_room(
 
 /// Leaves what each unit earns at best at the prices of a row, in money and in the order of the
 /// units' numbers.
-fn write_earnings_at_row(closed: &Closed, row: u32, earned: &mut Numbers)
+fn collect_unit_earnings_at_row(closed: &Closed, row: u32, earned: &mut Numbers)
     requires first { 1 ≤ row }
     requires last { row ≤ length (own_rows closed.now) }
     requires room { units_in closed.now.setup.market ≤ length earned.old.items + earned.old.spare }
@@ -58,7 +58,7 @@ fn write_earnings_at_row(closed: &Closed, row: u32, earned: &mut Numbers)
 
 /// Settles the schedule at the prices of the chosen row of a finished record. There is room for what each
 /// unit earns. Takes no memory.
-pub fn settle_chosen(closed: &Closed, earned: &mut Numbers, settlement: &mut Settlement)
+pub fn settle_at_chosen_prices(closed: &Closed, earned: &mut Numbers, settlement: &mut Settlement)
     requires finished { has_finished closed.now ≡ true }
     requires room { units_in closed.now.setup.market ≤ length earned.old.items + earned.old.spare }
     requires scheduled { length settlement.old.scheduled.items ≡ units_in closed.now.setup.market }
@@ -66,12 +66,12 @@ pub fn settle_chosen(closed: &Closed, earned: &mut Numbers, settlement: &mut Set
     ensures { (row : Proposal) × IsSettledRecord closed.now settlement.new row }
 {
     finished_has_row();
-    rows_are_within();
+    rows_of_history_are_within_limits();
     one_row_is_chosen();
-    answers_are_tops();
+    answers_to_row_earn_the_most();
     let rows = closed.rows();
     let chosen = closed.chosen();
-    write_earnings_at_row(closed, chosen, earned);
+    collect_unit_earnings_at_row(closed, chosen, earned);
     let row = &rows[chosen as usize - 1];
     settle(
         closed.case(),

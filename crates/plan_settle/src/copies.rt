@@ -23,7 +23,7 @@ pub fn copied_list<T: Copy + Drop>(
 }
 
 /// The same renewable unit.
-pub fn copied_flat(alloc: Global, flat: &Renewable) -> Result<Renewable, AllocError>
+pub fn copied_renewable(alloc: Global, flat: &Renewable) -> Result<Renewable, AllocError>
     ensures { IfOk result (λ r. renewable_of r ≡ renewable_of flat.now) }
 {
     let least = copied_list(alloc, &flat.least)?;
@@ -43,33 +43,37 @@ pub fn copied_bid(alloc: Global, bid: &Bid) -> Result<Bid, AllocError>
 }
 
 // On where the schedule is on, and off elsewhere.
-fn mark_of_flag(on: bool) -> Mark
+fn mark_of_fixed_commitment(on: bool) -> Mark
     ensures { result ≡ held_mark on }
 {
     if on { Mark::MustOn } else { Mark::MustOff }
 }
 
 // The window that holds these flags.
-fn held_window(alloc: Global, on: &Flags) -> Result<Marks, AllocError>
+fn window_of_fixed_commitment(alloc: Global, on: &Flags) -> Result<Marks, AllocError>
     requires { length on.now.items ≤ MOST_PERIODS }
     ensures { IfOk result (λ window. window.items ≡ map held_mark on.now.items) }
 {
     let mut window = Marks::make(alloc, on.len() as u32)?;
     for index in 0..on.len() {
-        window.push(mark_of_flag(*on.get(index)));
+        window.push(mark_of_fixed_commitment(*on.get(index)));
     }
     Ok(window)
 }
 
 /// The thermal unit, held to the response's commitment.
-pub fn hold_unit(alloc: Global, unit: &Unit, response: &Response) -> Result<Unit, AllocError>
+pub fn copy_unit_with_fixed_commitment(
+    alloc: Global,
+    unit: &Unit,
+    response: &Response,
+) -> Result<Unit, AllocError>
     requires { length (schedule_of response.now).on ≡ length (thermal_of unit.now).window }
     ensures { IfOk result (λ u. thermal_of u
         ≡ held_unit (thermal_of unit.now) (schedule_of response.now)) }
 {
     let lags = copied_list(alloc, &unit.lags)?;
     let points = copied_list(alloc, &unit.points)?;
-    let window = held_window(alloc, &response.on)?;
+    let window = window_of_fixed_commitment(alloc, &response.on)?;
     Ok(Unit {
         must_run: unit.must_run,
         min_power: unit.min_power,

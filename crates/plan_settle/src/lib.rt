@@ -22,9 +22,12 @@ mod room;
 mod settle;
 mod sides;
 
-pub use bound::{Bounded, best_bound};
-pub use chosen::{chosen_room, settle_chosen};
+pub use bound::{Bounded, best_bound_around_chosen_prices};
+pub use chosen::{make_settlement_buffers_of_run, settle_at_chosen_prices};
 pub use done::Done;
 pub use fix::fix_case;
 pub use settle::settle_at;
-pub use sides::{Sides, hold_commitments, settled_side, side_of_own_run, side_room};
+pub use sides::{
+    Sides, fix_commitments_of_run, fixed_report_side_of_fixed_run, fixed_report_side_of_free_run,
+    make_side_buffers,
+};

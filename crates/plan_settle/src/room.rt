@@ -37,7 +37,7 @@ pub struct Room {
 }
 
 /// So many answers over so many periods, to be written over.
-fn spare_answers(alloc: Global, count: u32, periods: u32) -> Result<Vec<Answered>, AllocError>
+fn make_answer_buffers(alloc: Global, count: u32, periods: u32) -> Result<Vec<Answered>, AllocError>
     ensures { IfOk result (λ answers. AreOver periods count answers.items) }
 {
     let mut answers = Vec::with_capacity(alloc, count as usize)?;
@@ -59,7 +59,7 @@ impl Room {
         let reserve = Amounts::make(alloc, case.periods)?;
         let settlement = Settlement::make(alloc, units)?;
         let spare = Spare {
-            answers: spare_answers(alloc, units, case.periods)?,
+            answers: make_answer_buffers(alloc, units, case.periods)?,
             last: LastAnswers::none(alloc),
         };
         Ok(Room {

@@ -7,21 +7,21 @@ ghost use Rattle.unit_program.specs.Tops.{IsBenchOver};
 ghost use Rattle.price_settle.specs.Settled.{IsSettledAt, settled_of};
 ghost use Rattle.plan_settle.specs.Rooms.{HasRoom};
 
-use crate::answers::answer_all;
+use crate::answers::answer_each_unit_at_prices;
 use crate::room::Room;
-use price_settle::{Settled, settle, total_responses};
+use price_settle::{Settled, settle, write_totals_of_responses};
 use price_space::{dual_value, earned_sum};
 use std::alloc::{AllocError, Global};
 use uc_model::cases::{Case, Plan, Row};
 use uc_model::laws::{
-    earned_sums_are_within, earnings_are_within, feasible_plans_have_shape, units_are_numbered,
-    units_are_within,
+    earned_sums_are_within, earnings_are_within, feasible_plans_have_shape,
+    unit_numbers_go_by_kind, units_are_within,
 };
 use uc_model::units::Prices;
 use unit_program::Bench;
 
 // The settlement in room that is there.
-fn settle_in_room(
+fn settle_plan_at_prices_into_buffers(
     case: &Case,
     plan: &Plan,
     prices: Prices,
@@ -36,7 +36,7 @@ fn settle_in_room(
         (settled_of result) }
     ensures bench { IsBenchOver (market_of case.now) bench.new }
 {
-    units_are_numbered();
+    unit_numbers_go_by_kind();
     units_are_within();
     earnings_are_within();
     earned_sums_are_within();
@@ -49,9 +49,9 @@ fn settle_in_room(
         mut reserve,
         mut settlement,
     } = room;
-    answer_all(bench, case, &prices, spare, &mut responses, &mut earned);
+    answer_each_unit_at_prices(bench, case, &prices, spare, &mut responses, &mut earned);
     let responses = Plan { responses };
-    total_responses(case, &responses, &mut supply, &mut reserve);
+    write_totals_of_responses(case, &responses, &mut supply, &mut reserve);
     let value = dual_value(case, &prices, earned_sum(earned.as_slice()));
     settle(case, plan, &prices, earned.as_slice(), &mut settlement);
     let row = Row {
@@ -91,5 +91,5 @@ pub fn settle_at(
     ensures bench { IsBenchOver (market_of case.now) bench.new }
 {
     let room = Room::make(alloc, case)?;
-    Ok(settle_in_room(case, plan, prices, bench, room))
+    Ok(settle_plan_at_prices_into_buffers(case, plan, prices, bench, room))
 }

@@ -12,12 +12,14 @@ ghost use Rattle.plan_settle.specs.Ended.{IsEnded};
 
 use crate::done::Done;
 use crate::fix_case;
-use crate::held_laws::commitments_are_fixed;
+use crate::held_laws::plan_stays_feasible_with_fixed_commitments;
 use board_core::Terms;
 use plain_lists::lists::Numbers;
 use price_settle::settle;
-use right_report::laws::{settled_sides_are_right, settlements_are_of_all_units};
-use right_report::{Side, chosen_side};
+use right_report::laws::{
+    settled_sides_of_fixed_report_are_right, settlement_has_entry_for_each_unit,
+};
+use right_report::{Side, fixed_report_side_of_finished_board};
 use std::alloc::{AllocError, Global};
 use std::mem;
 use uc_model::cases::Case;
@@ -40,7 +42,7 @@ pub struct Sides {
 
 /// The side of a run that has ended, with its terms: its chosen prices are copied into the room.
 /// Lets all else of the run go, and takes no memory.
-pub fn side_of_own_run(done: Done, room: Prices) -> (Side, Terms)
+pub fn fixed_report_side_of_free_run(done: Done, room: Prices) -> (Side, Terms)
     requires ended { IsEnded done.closed.setup done }
     requires horizon { length (prices_of room).energy ≡ done.closed.setup.market.periods }
     ensures side { IsOwnSide done.closed.setup result.0 }
@@ -53,14 +55,14 @@ pub fn side_of_own_run(done: Done, room: Prices) -> (Side, Terms)
         buffer: _buffer,
         bench: _bench,
     } = done;
-    settled_sides_are_right();
-    settlements_are_of_all_units();
-    let side = chosen_side(&closed, room, settlement);
+    settled_sides_of_fixed_report_are_right();
+    settlement_has_entry_for_each_unit();
+    let side = fixed_report_side_of_finished_board(&closed, room, settlement);
     (side, closed.into_terms())
 }
 
 /// Room for the prices of a side of the case, and for what its units earn.
-pub fn side_room(alloc: Global, given: &Case) -> Result<(Prices, Numbers), AllocError>
+pub fn make_side_buffers(alloc: Global, given: &Case) -> Result<(Prices, Numbers), AllocError>
     ensures horizon { IfOk result (λ r. length (prices_of r.0).energy
         ≡ (market_of given.now).periods) }
     ensures count { IfOk result (λ r. units_in (market_of given.now)
@@ -73,7 +75,13 @@ pub fn side_room(alloc: Global, given: &Case) -> Result<(Prices, Numbers), Alloc
 
 /// The side of a run with commitments held that has ended: its chosen prices are copied into the
 /// room, and the schedule is settled at them for the case as given. Takes no memory.
-pub fn settled_side(alloc: Global, given: &Case, done: Done, room: Prices, earned: Numbers) -> Side
+pub fn fixed_report_side_of_fixed_run(
+    alloc: Global,
+    given: &Case,
+    done: Done,
+    room: Prices,
+    earned: Numbers,
+) -> Side
     requires ended { IsEnded done.closed.setup done }
     requires feasible { IsFeasiblePlan (market_of given.now) done.closed.setup.plan }
     requires held { done.closed.setup.market
@@ -89,10 +97,10 @@ pub fn settled_side(alloc: Global, given: &Case, done: Done, room: Prices, earne
         mut bench,
     } = done;
     let mut earned = earned;
-    settled_sides_are_right();
-    settlements_are_of_all_units();
-    commitments_are_fixed();
-    let mut side = chosen_side(&closed, room, settlement);
+    settled_sides_of_fixed_report_are_right();
+    settlement_has_entry_for_each_unit();
+    plan_stays_feasible_with_fixed_commitments();
+    let mut side = fixed_report_side_of_finished_board(&closed, room, settlement);
     let last = LastAnswers::none(alloc);
     let prices = &side.prices;
     earn_all(&mut bench, &last, given, prices, &mut buffer, &mut earned);
@@ -108,7 +116,7 @@ pub fn settled_side(alloc: Global, given: &Case, done: Done, room: Prices, earne
 
 /// The case as given, and the terms with the commitments of their schedule held. `AllocError` is
 /// want of memory for the case that is held; the terms are then dropped.
-pub fn hold_commitments(alloc: Global, terms: Terms) -> Result<(Case, Terms), AllocError>
+pub fn fix_commitments_of_run(alloc: Global, terms: Terms) -> Result<(Case, Terms), AllocError>
     requires { IsSetup (setup_of terms) }
     ensures given { IfOk result (λ r. market_of r.0 ≡ (setup_of terms).market) }
     ensures held { IfOk result (λ r. setup_of r.1 ≡ held_setup (setup_of terms)) }

@@ -16,7 +16,7 @@ use ramp_step::law::knots_decide;
 use ramp_step::line::line_step;
 use ramp_step::read;
 use ramp_step::window::window_step;
-use slope_list::shape_laws::effects_are_of_values;
+use slope_list::shape_laws::operations_depend_on_values_alone;
 use std::alloc::{AllocError, Global};
 use uc_model::units::Curve;
 
@@ -49,7 +49,7 @@ pub(crate) fn add_line(knots: &mut Vec<Knot>, slope: i64)
     ensures count { length knots.new.items ≡ length knots.old.items }
 {
     knots_decide();
-    effects_are_of_values();
+    operations_depend_on_values_alone();
     let used = knots.len() as u32;
     line_step(knots, used, slope);
 }
@@ -73,7 +73,7 @@ pub(crate) fn add_reserve(
     ensures err { OnErr result (knots.new.items ≡ knots.old.items) }
 {
     knots_decide();
-    effects_are_of_values();
+    operations_depend_on_values_alone();
     let used = make_room(knots, 1)?;
     let left = kink_step(knots, used, mu, cap, up);
     knots.truncate(left as usize);
@@ -97,7 +97,7 @@ pub(crate) fn add_curve(knots: &mut Vec<Knot>, curve: &Curve, shift: i64) -> Res
         return Ok(());
     }
     knots_decide();
-    effects_are_of_values();
+    operations_depend_on_values_alone();
     let used = make_room(knots, curve.blocks.len())?;
     let left = curve_step(knots, used, curve, shift);
     knots.truncate(left as usize);
@@ -126,7 +126,7 @@ pub(crate) fn window(
     ensures err { OnErr result (knots.new.items ≡ knots.old.items) }
 {
     knots_decide();
-    effects_are_of_values();
+    operations_depend_on_values_alone();
     let used = make_room(knots, 4)?;
     let left = window_step(knots, used, up, down, lo, hi);
     knots.truncate(left as usize);

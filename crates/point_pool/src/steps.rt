@@ -11,7 +11,7 @@ use ramp_step::kink::kink_step;
 use ramp_step::law::knots_decide;
 use ramp_step::line::line_step;
 use ramp_step::window::window_step;
-use slope_list::shape_laws::effects_are_of_values;
+use slope_list::shape_laws::operations_depend_on_values_alone;
 use uc_model::units::Curve;
 
 impl Pool {
@@ -27,7 +27,7 @@ impl Pool {
         ensures spare { self.new.spare ≡ self.old.spare }
     {
         knots_decide();
-        effects_are_of_values();
+        operations_depend_on_values_alone();
         line_step(&mut self.work, used, slope);
     }
 
@@ -49,7 +49,7 @@ impl Pool {
         ensures spare { self.new.spare ≡ self.old.spare }
     {
         knots_decide();
-        effects_are_of_values();
+        operations_depend_on_values_alone();
         kink_step(&mut self.work, used, mu, cap, up)
     }
 
@@ -71,7 +71,7 @@ impl Pool {
         ensures spare { self.new.spare ≡ self.old.spare }
     {
         knots_decide();
-        effects_are_of_values();
+        operations_depend_on_values_alone();
         curve_step(&mut self.work, used, curve, shift)
     }
 
@@ -94,7 +94,7 @@ impl Pool {
         ensures spare { self.new.spare ≡ self.old.spare }
     {
         knots_decide();
-        effects_are_of_values();
+        operations_depend_on_values_alone();
         window_step(&mut self.work, used, up, down, lo, hi)
     }
 }

@@ -14,7 +14,7 @@ pub use Rattle.plain_lists.proofs.ListLaws.{total-push}
 pub use Rattle.uc_model.specs.Data.{ThermalUnit, Schedule, AnyUnit, Thermal, Flat, Bid, RenewableUnit, BidUnit, Market}
 pub use Rattle.uc_model.specs.Data.{units, unit_count, PriceLists}
 pub use Rattle.uc_model.specs.Earnings.{earnings, IsTop, revenue}
-pub use Rattle.uc_model.specs.Laws.{HasPlanShape, OneLeast, PaymentsMakeUpTheGap, NothingIsPaidBack}
+pub use Rattle.uc_model.specs.Laws.{HasPlanShape, OneLeast, PaymentsMakeUpTheGap, PaymentsAreAtLeastZero}
 pub use Rattle.plain_lists.specs.Ranges.{IsFrom}
 pub use Rattle.uc_model.specs.Limits.{IsUnit, IsEarned, ArePrices, AreOneLength, price_limit}
 pub use Rattle.uc_model.specs.PlainCases.{market_of, schedules_of, unit_of}
@@ -26,5 +26,5 @@ pub use Rattle.plain_lists.proofs.SignedLaws.{mul-neg, IsWithin, sum_within, sig
 pub use Rattle.plain_lists.proofs.SignedLaws.{product_within}
 pub use Rattle.price_settle.specs.Earned.{paid_for, earned_in, surplus_at}
 pub use Rattle.std.proofs.lemmas.List.FromFn.{get_or-map-range_with_len, map-range_with_len_more}
-pub use Rattle.uc_model.specs.PlanLaws.{UnitsAreNumbered, FeasiblePlansHaveShape}
-pub use Rattle.price_settle.specs.Laws.{OneSettlement, SettlementsAddUp, SettlementsHaveEachUnit}
+pub use Rattle.uc_model.specs.PlanLaws.{UnitNumbersGoByKind, FeasiblePlansHaveShape}
+pub use Rattle.price_settle.specs.Laws.{PlanHasAtMostOneSettlement, SettlementsAddUp, SettlementsHaveEachUnit}

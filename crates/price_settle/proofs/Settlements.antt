@@ -3,8 +3,9 @@ use Rattle.price_settle.proofs.Common.{◌≡◌, ℕ, ℤ, pos, ◌-ℤ◌, Lis
 use Rattle.price_settle.proofs.Common.{arith, ints, AllZip, range_with_len, get_or-map-range_with_len, length_same}
 use Rattle.price_settle.proofs.Common.{length-zip_with, total, zip_with, AnyUnit, PriceLists, Schedule, Market, units}
 use Rattle.price_settle.proofs.Common.{unit_count, IsTop, earnings, HasPlanShape, OneLeast, PaymentsMakeUpTheGap}
-use Rattle.price_settle.proofs.Common.{NothingIsPaidBack, UnitsAreNumbered, FeasiblePlansHaveShape, IsFeasible}
-use Rattle.price_settle.proofs.Common.{worth_of_demand, IsDualValue, total_power, total_reserve, OneSettlement}
+use Rattle.price_settle.proofs.Common.{PaymentsAreAtLeastZero, UnitNumbersGoByKind, FeasiblePlansHaveShape, IsFeasible}
+use Rattle.price_settle.proofs.Common.{worth_of_demand, IsDualValue, total_power, total_reserve}
+use Rattle.price_settle.proofs.Common.{PlanHasAtMostOneSettlement}
 use Rattle.price_settle.proofs.Common.{SettlementsAddUp, SettlementsHaveEachUnit}
 use Rattle.uc_model.specs.Runs.{Fits}
 
@@ -38,7 +39,7 @@ dual_same : (m : Market) (π : PriceLists) (a b : ℤ) → IsDualValue m π a �
 dual_same m π a b h i = h.is ∙ ap (λ (es : List ℤ). worth_of_demand m π -ℤ total es)
     (tops_same π (units m) h.tops i.tops h.best i.best) ∙ sym i.is
 
-pub one_settlement : OneLeast → OneSettlement
+pub one_settlement : OneLeast → PlanHasAtMostOneSettlement
 one_settlement one_least m plan π s other h i =
     let prices : s.row.prices ≡ other.row.prices = h.prices ∙ sym i.prices in
     let value = dual_same m π s.row.value other.row.value h.value i.value in
@@ -70,7 +71,7 @@ one_settlement one_least m plan π s other h i =
 
 -- ---- what it adds up to
 
-pub adds_up : PaymentsMakeUpTheGap → NothingIsPaidBack → SettlementsAddUp
+pub adds_up : PaymentsMakeUpTheGap → PaymentsAreAtLeastZero → SettlementsAddUp
 adds_up make_up paid_back m plan π s feasible from_0 h =
     let none = paid_back m plan π s.scheduled s.payments s.surplus s.sum feasible from_0 h.settled in
     record {
@@ -114,7 +115,7 @@ all_feasible π n (u ∷ us) [] horizon z = absurd z
 all_feasible π n (u ∷ us) (r ∷ rs) horizon z =
     (subst (λ (p : ℕ). IsFeasible u p r) horizon z.0.best.feasible, all_feasible π n us rs horizon z.1)
 
-pub have_each : UnitsAreNumbered → FeasiblePlansHaveShape → SettlementsHaveEachUnit
+pub have_each : UnitNumbersGoByKind → FeasiblePlansHaveShape → SettlementsHaveEachUnit
 have_each numbered shapes m plan π s feasible horizon h =
     let count = (numbered m).count in
     let planned = length_same (λ u t. IsFeasible u m.periods t) (units m) plan feasible.feasible in

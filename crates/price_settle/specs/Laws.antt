@@ -8,8 +8,8 @@ use Rattle.uc_model.specs.Systems.{IsFeasiblePlan, plan_cost}
 use Rattle.price_settle.specs.Settled.{Settled, IsSettledAt, HasEachUnit}
 
 -- at most one is the settlement of a plan at given prices
-abbrev pub OneSettlement : Type 0
-OneSettlement =
+abbrev pub PlanHasAtMostOneSettlement : Type 0
+PlanHasAtMostOneSettlement =
     (m : Market) (plan : List Schedule) (π : PriceLists) (s other : Settled) →
     IsSettledAt m plan π s → IsSettledAt m plan π other → s ≡ other
 

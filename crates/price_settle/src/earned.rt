@@ -53,7 +53,7 @@ fn thermal_earnings(unit: &Unit, prices: &Prices, response: &Response) -> i128
 }
 
 // What the schedule of a renewable unit earns: what it is paid, at no cost.
-fn flat_earnings(prices: &Prices, response: &Response) -> i128
+fn earnings_of_renewable_schedule(prices: &Prices, response: &Response) -> i128
     requires { length (schedule_of response.now).on ≡ length (prices_of prices.now).energy }
     ensures { (r : RenewableUnit)
         → result ≡ earnings (Flat r) (prices_of prices.now) (schedule_of response.now) }
@@ -86,13 +86,13 @@ fn unit_earnings(unit: UnitRef<'_>, prices: &Prices, response: &Response) -> i12
 {
     match unit {
         UnitRef::Thermal(unit) => thermal_earnings(unit, prices, response),
-        UnitRef::Renewable(_) => flat_earnings(prices, response),
+        UnitRef::Renewable(_) => earnings_of_renewable_schedule(prices, response),
         UnitRef::Bid(bid) => bid_earnings(bid, prices, response),
     }
 }
 
 // What the unit of a number earns in the plan, in a type that holds it without a look at the plan.
-fn earned_at(case: &Case, plan: &Plan, prices: &Prices, number: usize) -> i128
+fn wide_earnings_of_unit_in_plan(case: &Case, plan: &Plan, prices: &Prices, number: usize) -> i128
     requires feasible { IsFeasiblePlan (market_of case.now) (schedules_of plan.now) }
     requires horizon { length (prices_of prices.now).energy ≡ (market_of case.now).periods }
     requires number { number < length (schedules_of plan.now) }
@@ -106,7 +106,7 @@ fn earned_at(case: &Case, plan: &Plan, prices: &Prices, number: usize) -> i128
 
 /// What the unit of a number earns in a feasible plan at the prices, in money. Numbers count from
 /// 0.
-pub fn earned_by(case: &Case, plan: &Plan, prices: &Prices, number: usize) -> i64
+pub fn earnings_of_unit_in_plan(case: &Case, plan: &Plan, prices: &Prices, number: usize) -> i64
     requires feasible { IsFeasiblePlan (market_of case.now) (schedules_of plan.now) }
     requires horizon { length (prices_of prices.now).energy ≡ (market_of case.now).periods }
     requires number { number < length (schedules_of plan.now) }
@@ -116,5 +116,5 @@ pub fn earned_by(case: &Case, plan: &Plan, prices: &Prices, number: usize) -> i6
 {
     units_are_within();
     earnings_are_within();
-    earned_at(case, plan, prices, number) as i64
+    wide_earnings_of_unit_in_plan(case, plan, prices, number) as i64
 }

@@ -16,4 +16,4 @@ mod totals;
 
 pub use settled::Settled;
 pub use settlement::{Settlement, settle};
-pub use totals::total_responses;
+pub use totals::write_totals_of_responses;

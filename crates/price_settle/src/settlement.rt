@@ -11,13 +11,13 @@ ghost use Rattle.uc_model.specs.PlainUnits.{prices_of};
 ghost use Rattle.uc_model.specs.Systems.{IsFeasiblePlan, IsSettled, surplus_value};
 ghost use Rattle.price_settle.specs.Earned.{surplus_at};
 
-use crate::earned::earned_by;
+use crate::earned::earnings_of_unit_in_plan;
 use plain_lists::lists::Numbers;
-use plan_check::totals::reserves_in;
+use plan_check::totals::required_and_given_reserve;
 use std::alloc::{AllocError, Global};
 use uc_model::cases::{Case, Plan};
 use uc_model::laws::{
-    earnings_are_within, feasible_plans_have_shape, units_are_numbered, units_are_within,
+    earnings_are_within, feasible_plans_have_shape, unit_numbers_go_by_kind, units_are_within,
 };
 use uc_model::money::worth_at_price;
 use uc_model::units::Prices;
@@ -76,7 +76,7 @@ fn surplus_reserve_at(case: &Case, plan: &Plan, index: usize) -> i64
     ensures limit { IsFrom (neg_ℤ (pos 200000000000000)) (pos 200000000000000) result }
 {
     feasible_plans_have_shape();
-    let reserves = reserves_in(case, plan, index);
+    let reserves = required_and_given_reserve(case, plan, index);
     reserves.given - reserves.required
 }
 
@@ -148,7 +148,7 @@ pub fn settle(case: &Case, plan: &Plan, prices: &Prices, earned: &[i64], into: &
     ensures scheduled_room { into.new.scheduled.spare ≡ into.old.scheduled.spare }
     ensures payments_room { into.new.payments.spare ≡ into.old.payments.spare }
 {
-    units_are_numbered();
+    unit_numbers_go_by_kind();
     units_are_within();
     earnings_are_within();
     feasible_plans_have_shape();
@@ -156,7 +156,7 @@ pub fn settle(case: &Case, plan: &Plan, prices: &Prices, earned: &[i64], into: &
     into.payments.clear();
     into.total = 0;
     for number in 0..earned.len() {
-        let scheduled = earned_by(case, plan, prices, number);
+        let scheduled = earnings_of_unit_in_plan(case, plan, prices, number);
         let payment = payment_of(best_earnings_of(earned, number), scheduled);
         add_unit(into, scheduled, payment);
     }

@@ -7,12 +7,17 @@ ghost use Rattle.uc_model.specs.PlainCases.{market_of, schedules_of};
 ghost use Rattle.uc_model.specs.Systems.{total_power, total_reserve};
 
 use plain_lists::lists::Amounts;
-use plan_check::totals::{net_power, reserves_in};
+use plan_check::totals::{net_power, required_and_given_reserve};
 use uc_model::cases::{Case, Plan};
 
 /// Leaves the totals of the responses over the periods, in kilowatts, in lists with room for them:
 /// in `supply` the powers of the units less those of the bids, and the reserves in `reserve`.
-pub fn total_responses(case: &Case, responses: &Plan, supply: &mut Amounts, reserve: &mut Amounts)
+pub fn write_totals_of_responses(
+    case: &Case,
+    responses: &Plan,
+    supply: &mut Amounts,
+    reserve: &mut Amounts,
+)
     requires shape { HasPlanShape (market_of case.now) (schedules_of responses.now) }
     requires no_supply { supply.old.items ≡ [] }
     requires supply_room { (market_of case.now).periods ≤ supply.old.spare }
@@ -27,6 +32,6 @@ pub fn total_responses(case: &Case, responses: &Plan, supply: &mut Amounts, rese
 {
     for index in 0..case.periods as usize {
         supply.push(i128::from(net_power(case, responses, index)));
-        reserve.push(i128::from(reserves_in(case, responses, index).given));
+        reserve.push(i128::from(required_and_given_reserve(case, responses, index).given));
     }
 }

@@ -9,7 +9,7 @@ ghost use Rattle.price_space.specs.Moves.{values_of};
 use uc_model::cases::Row;
 
 // The later place where its row's value is greater.
-fn better_row(rows: &[Row], best: usize, later: usize) -> usize
+fn row_of_greater_dual_value(rows: &[Row], best: usize, later: usize) -> usize
     requires best { best < length rows.now }
     requires later { later < length rows.now }
     ensures { result ≡ (if int_lt (int_at (values_of (map proposal_of rows.now)) best)
@@ -22,7 +22,7 @@ fn better_row(rows: &[Row], best: usize, later: usize) -> usize
 }
 
 /// The place from 0 of the first row whose value is at least each row's.
-pub fn greatest_row(rows: &[Row]) -> usize
+pub fn row_of_greatest_dual_value(rows: &[Row]) -> usize
     requires { 0 < length rows.now }
     ensures place { result < length rows.now }
     ensures up_to { IsFirstUpTo (values_of (map proposal_of rows.now)) (length rows.now) result }
@@ -31,14 +31,14 @@ pub fn greatest_row(rows: &[Row]) -> usize
 {
     let mut best = 0;
     for i in 1..rows.len() {
-        best = better_row(rows, best, i);
+        best = row_of_greater_dual_value(rows, best, i);
     }
     best
 }
 
 /// The place of the first row with the greatest value among those up to and with `last_row`, where
 /// `best` is that place among those before it, if there are some.
-pub fn greatest_row_with(rows: &[Row], last: usize, best: usize) -> usize
+pub fn row_of_greatest_dual_value_up_to(rows: &[Row], last: usize, best: usize) -> usize
     requires last { last < length rows.now }
     requires best { 0 < last → IsFirstUpTo (values_of (map proposal_of rows.now)) last best }
     ensures { IsFirstUpTo (values_of (map proposal_of rows.now)) (last + 1) result }
@@ -46,5 +46,5 @@ pub fn greatest_row_with(rows: &[Row], last: usize, best: usize) -> usize
     if last == 0 {
         return 0;
     }
-    better_row(rows, best, last)
+    row_of_greater_dual_value(rows, best, last)
 }

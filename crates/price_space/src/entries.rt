@@ -18,7 +18,7 @@ pub enum Product {
 }
 
 // The entry, and 0 where it would lead past the limit at which the price stands.
-fn projected_entry(low: i64, high: i64, price: i64, entry: i64) -> i64
+fn projected_direction_entry(low: i64, high: i64, price: i64, entry: i64) -> i64
     requires { IsEntry entry }
     ensures value { result ≡ projected low high price entry }
     ensures bound { IsEntry result }
@@ -31,7 +31,7 @@ fn projected_entry(low: i64, high: i64, price: i64, entry: i64) -> i64
 }
 
 /// What a total lacks of the power that is required, in kilowatts: at most 2 * 10^13 in magnitude.
-pub fn lack_of_total(required: i64, total: i128) -> i64
+pub fn shortfall_of_total(required: i64, total: i128) -> i64
     requires required { IsPower required }
     requires total { IsTotal total }
     ensures value { result ≡ required -ℤ total }
@@ -41,25 +41,25 @@ pub fn lack_of_total(required: i64, total: i128) -> i64
 }
 
 // The entry of an energy price, whose place counts from 0.
-fn energy_entry(case: &Case, row: &Row, k: usize) -> i64
+fn direction_entry_of_energy(case: &Case, row: &Row, k: usize) -> i64
     requires row { IsRowOver (market_of case.now) (proposal_of row.now) }
     requires place { k < (market_of case.now).periods }
     ensures value { result ≡ energy_direction (market_of case.now) (proposal_of row.now) k }
     ensures bound { IsEntry result }
 {
-    let entry = lack_of_total(*case.demand.get(k), *row.supply.get(k));
-    projected_entry(-PRICE_LIMIT, PRICE_LIMIT, *row.prices.energy.get(k), entry)
+    let entry = shortfall_of_total(*case.demand.get(k), *row.supply.get(k));
+    projected_direction_entry(-PRICE_LIMIT, PRICE_LIMIT, *row.prices.energy.get(k), entry)
 }
 
 // The entry of a reserve price, whose place counts from 0.
-fn reserve_entry(case: &Case, row: &Row, k: usize) -> i64
+fn direction_entry_of_reserve(case: &Case, row: &Row, k: usize) -> i64
     requires row { IsRowOver (market_of case.now) (proposal_of row.now) }
     requires place { k < (market_of case.now).periods }
     ensures value { result ≡ reserve_direction (market_of case.now) (proposal_of row.now) k }
     ensures bound { IsEntry result }
 {
-    let entry = lack_of_total(*case.reserves.get(k), *row.reserve.get(k));
-    projected_entry(0, PRICE_LIMIT, *row.prices.reserve.get(k), entry)
+    let entry = shortfall_of_total(*case.reserves.get(k), *row.reserve.get(k));
+    projected_direction_entry(0, PRICE_LIMIT, *row.prices.reserve.get(k), entry)
 }
 
 /// The entry of a product's price, whose place counts from 0.
@@ -70,8 +70,8 @@ pub fn direction_entry(case: &Case, row: &Row, product: Product, k: usize) -> i6
     ensures bound { IsEntry result }
 {
     match product {
-        Product::Energy => energy_entry(case, row, k),
-        Product::Reserve => reserve_entry(case, row, k),
+        Product::Energy => direction_entry_of_energy(case, row, k),
+        Product::Reserve => direction_entry_of_reserve(case, row, k),
     }
 }
 
@@ -86,7 +86,7 @@ pub fn direction(case: &Case, row: &Row, place: u32) -> i64
     ensures bound { IsEntry result }
 {
     if place < case.periods {
-        return energy_entry(case, row, place as usize);
+        return direction_entry_of_energy(case, row, place as usize);
     }
-    reserve_entry(case, row, (place - case.periods) as usize)
+    direction_entry_of_reserve(case, row, (place - case.periods) as usize)
 }

@@ -25,10 +25,10 @@ mod step;
 mod totals;
 mod value;
 
-pub use best_row::{greatest_row, greatest_row_with};
-pub use entries::{direction, lack_of_total};
-pub use next::{Moved, next_prices, next_prices_from};
+pub use best_row::{row_of_greatest_dual_value, row_of_greatest_dual_value_up_to};
+pub use entries::{direction, shortfall_of_total};
+pub use next::{Moved, next_prices, next_prices_from_best_row};
 pub use opening::opening_prices;
 pub use start::start_prices;
-pub use totals::{add_response, count_each, take_bid};
+pub use totals::{add_nonzero_powers_to_totals, add_response, take_bid};
 pub use value::{dual_value, earned_sum};

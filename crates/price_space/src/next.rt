@@ -12,9 +12,9 @@ ghost use Rattle.price_space.specs.Firsts.{IsFirstUpTo};
 ghost use Rattle.price_space.specs.Moves.{is_last_settled, values_of};
 ghost use Rattle.price_space.specs.Sizes.{IsRowBelow};
 
-use crate::best_row::greatest_row;
+use crate::best_row::row_of_greatest_dual_value;
 use crate::entries::Product;
-use crate::step::{Step, norm_of, scale_of, take_step};
+use crate::step::{Step, squared_norm_of_direction, step_divisor, take_step};
 use uc_model::cases::{Case, Row};
 use uc_model::units::Prices;
 
@@ -47,7 +47,7 @@ fn gap_of_row(case: &Case, row: &Row, cost: i128) -> i128
 }
 
 // No step is left where the gap or the direction is 0.
-fn has_no_step(gap: i128, norm: i128) -> bool
+fn is_gap_or_direction_zero(gap: i128, norm: i128) -> bool
     ensures { result ≡ ((unsigned_abs gap == 0) || (unsigned_abs norm == 0)) }
 {
     gap == 0 || norm == 0
@@ -82,12 +82,12 @@ pub fn next_prices(case: &Case, rows: &[Row], ahead: u32, cost: i128, into: &mut
         ≡ prices_after (market_of case.now) cost (map proposal_of rows.now) }
     ensures unchanged { result ≡ Moved.Settled → prices_of into.new ≡ prices_of into.old }
 {
-    next_prices_from(case, rows, greatest_row(rows), cost, into)
+    next_prices_from_best_row(case, rows, row_of_greatest_dual_value(rows), cost, into)
 }
 
 /// The same in time that doesn't grow with the rows, where `best` is the place of the first row
 /// with the greatest value.
-pub fn next_prices_from(
+pub fn next_prices_from_best_row(
     case: &Case,
     rows: &[Row],
     best: usize,
@@ -107,11 +107,11 @@ pub fn next_prices_from(
 {
     let row = last_row(rows);
     let gap = gap_of_row(case, row, cost);
-    let norm = norm_of(case, row);
-    if has_no_step(gap, norm) {
+    let norm = squared_norm_of_direction(case, row);
+    if is_gap_or_direction_zero(gap, norm) {
         return Moved::Settled;
     }
-    let scale = scale_of(norm, rows_since_best(rows, best));
+    let scale = step_divisor(norm, rows_since_best(rows, best));
     let step = Step { gap, scale };
     take_step(case, row, step, Product::Energy, &mut into.energy);
     take_step(case, row, step, Product::Reserve, &mut into.reserve);

@@ -11,11 +11,11 @@ ghost use Rattle.price_space.specs.Opening.{opened};
 
 use plain_lists::lists::Numbers;
 use uc_model::limits::PRICE_LIMIT;
-use uc_model::money::price_near;
+use uc_model::money::clamp_to_price_limit;
 use uc_model::units::Prices;
 
 // (7 + n) / 8 of a start price, rounded down. A start price may be any number.
-fn opening_share(start: i64, n: u32) -> i128
+fn share_of_start_price(start: i64, n: u32) -> i128
     requires { n ≤ MOST_AHEAD }
     ensures { result ≡ floor_div (start *ℤ pos (7 + n)) 8 }
 {
@@ -26,7 +26,7 @@ fn opening_price(start: i64, n: u32) -> i64
     requires { n ≤ MOST_AHEAD }
     ensures { result ≡ opened n start }
 {
-    price_near(-PRICE_LIMIT, opening_share(start, n))
+    clamp_to_price_limit(-PRICE_LIMIT, share_of_start_price(start, n))
 }
 
 fn write_opening_energy(start: &Numbers, n: u32, into: &mut Numbers)

@@ -28,7 +28,7 @@ pub struct Priced {
     pub power: i64,
 }
 
-fn priced_unit(unit: &Unit) -> Priced
+fn unit_with_full_load_price(unit: &Unit) -> Priced
     ensures { result ≡ priced_of (thermal_of unit.now) }
 {
     Priced {
@@ -37,28 +37,28 @@ fn priced_unit(unit: &Unit) -> Priced
     }
 }
 
-fn priced_units(alloc: Global, case: &Case) -> Result<Vec<Priced>, AllocError>
+fn units_with_full_load_prices(alloc: Global, case: &Case) -> Result<Vec<Priced>, AllocError>
     ensures { IfOk result (λ v. v.items ≡ map (λ n. priced_of (thermal_of n.unit))
         case.now.thermal.items) }
 {
     case.thermal
         .as_slice()
         .iter()
-        .map(|named| priced_unit(&named.unit))
+        .map(|named| unit_with_full_load_price(&named.unit))
         .collect(alloc)
 }
 
 // The units from the cheapest at full load to the dearest.
-fn rising_units(alloc: Global, case: &Case) -> Result<Vec<Priced>, AllocError>
+fn units_by_rising_full_load_price(alloc: Global, case: &Case) -> Result<Vec<Priced>, AllocError>
     ensures { IfOk result (λ v. AreRisingUnits (market_of case.now) v.items) }
 {
-    let mut units = priced_units(alloc, case)?;
+    let mut units = units_with_full_load_prices(alloc, case)?;
     units.sort_unstable();
     Ok(units)
 }
 
 // The price of the last unit, and 0 where there is none.
-fn last_price(units: &[Priced]) -> i64
+fn price_of_last_unit(units: &[Priced]) -> i64
     ensures { result ≡ option_map_or (λ u. u.price) (slice_get units.now (length units.now - 1))
         (pos 0) }
 {
@@ -69,7 +69,7 @@ fn last_price(units: &[Priced]) -> i64
 }
 
 // The first price up to which the units give what is short, or else the last price, or else 0.
-fn first_price_reaching(units: &[Priced], short: i64) -> i64
+fn full_load_price_covering_demand(units: &[Priced], short: i64) -> i64
     requires rising { IsRising units.now }
     requires powers { All (λ u. IsOutput u.power) units.now }
     requires count { length units.now ≤ MOST_OF_A_KIND }
@@ -82,11 +82,11 @@ fn first_price_reaching(units: &[Priced], short: i64) -> i64
             return unit.price;
         }
     }
-    last_price(units)
+    price_of_last_unit(units)
 }
 
 // A renewable unit's greatest power in a period, whose place counts from 0.
-fn renewable_power_at(named: &NamedFlat, k: usize) -> u64
+fn greatest_power_of_renewable(named: &NamedFlat, k: usize) -> u64
     requires { k < length (named_renewable_of named.now).unit.most }
     ensures power { pos result ≡ int_at (named_renewable_of named.now).unit.most k }
     ensures bound { result ≤ 1000000000 }
@@ -95,14 +95,14 @@ fn renewable_power_at(named: &NamedFlat, k: usize) -> u64
 }
 
 // The greatest power of all renewable units in a period.
-fn renewable_power(case: &Case, k: usize) -> u64
+fn greatest_power_of_all_renewables(case: &Case, k: usize) -> u64
     requires { k < (market_of case.now).periods }
     ensures power { pos result ≡ renewable_power_of (market_of case.now) k }
     ensures bound { result ≤ 4096000000000 }
 {
     let mut power: u64 = 0;
     for named in case.flat.as_slice() {
-        power += renewable_power_at(named, k);
+        power += greatest_power_of_renewable(named, k);
     }
     power
 }
@@ -113,15 +113,15 @@ fn residual_demand(case: &Case, k: usize) -> i64
     ensures { result ≡ int_at (market_of case.now).demand k
         -ℤ renewable_power_of (market_of case.now) k }
 {
-    *case.demand.get(k) - renewable_power(case, k) as i64
+    *case.demand.get(k) - greatest_power_of_all_renewables(case, k) as i64
 }
 
-fn start_price(case: &Case, units: &[Priced], k: usize) -> i64
+fn start_price_of_period(case: &Case, units: &[Priced], k: usize) -> i64
     requires units { AreRisingUnits (market_of case.now) units.now }
     requires place { k < (market_of case.now).periods }
     ensures { result ≡ start_price_of_market (market_of case.now) k }
 {
-    first_price_reaching(units, residual_demand(case, k))
+    full_load_price_covering_demand(units, residual_demand(case, k))
 }
 
 /// The start price of each period, in money for a kilowatt: the least full-load price up to which
@@ -131,10 +131,10 @@ fn start_price(case: &Case, units: &[Priced], k: usize) -> i64
 pub fn start_prices(alloc: Global, case: &Case) -> Result<Numbers, AllocError>
     ensures { IfOk result (λ prices. prices.items ≡ start_prices_of (market_of case.now)) }
 {
-    let units = rising_units(alloc, case)?;
+    let units = units_by_rising_full_load_price(alloc, case)?;
     let mut prices = Numbers::make(alloc, case.periods)?;
     for k in 0..case.periods as usize {
-        prices.push(start_price(case, units.as_slice(), k));
+        prices.push(start_price_of_period(case, units.as_slice(), k));
     }
     Ok(prices)
 }

@@ -14,7 +14,7 @@ use crate::entries::{Product, direction, direction_entry};
 use plain_lists::lists::Numbers;
 use uc_model::cases::{Case, Row};
 use uc_model::limits::PRICE_LIMIT;
-use uc_model::money::price_near;
+use uc_model::money::clamp_to_price_limit;
 
 /// A step moves a price by `gap` times its entry of the direction over `scale`.
 #[derive(Clone, Copy)]
@@ -35,7 +35,7 @@ fn square_of(entry: i64) -> i128
 }
 
 /// The sum of the squares of the direction's entries: at most 336 times the square of 2 * 10^13.
-pub fn norm_of(case: &Case, row: &Row) -> i128
+pub fn squared_norm_of_direction(case: &Case, row: &Row) -> i128
     requires { IsRowOver (market_of case.now) (proposal_of row.now) }
     ensures value { result ≡ squared_length (market_of case.now) (proposal_of row.now) }
     ensures bound { IsFrom (pos 0) (pos 134400000000000000000000000000) result }
@@ -48,7 +48,7 @@ pub fn norm_of(case: &Case, row: &Row) -> i128
 }
 
 // Twice as many with each ten rows that brought no better value, up to 2^20.
-fn step_doublings(age: usize) -> u32
+fn step_halving_factor(age: usize) -> u32
     ensures value { result ≡ 2 ^ min 20 (age / 10) }
     ensures low { 1 ≤ result }
     ensures high { result ≤ 1048576 }
@@ -58,18 +58,18 @@ fn step_doublings(age: usize) -> u32
 }
 
 /// What a step's moves are divided by.
-pub fn scale_of(norm: i128, age: usize) -> i128
+pub fn step_divisor(norm: i128, age: usize) -> i128
     requires { IsFrom (pos 1) (pos 134400000000000000000000000000) norm }
     ensures value { result ≡ norm *ℤ pos (2 ^ min 20 (age / 10)) }
     ensures bound { IsFrom (pos 1) (pos 1000000000000000000000000000000000000) result }
 {
-    norm * i128::from(step_doublings(age))
+    norm * i128::from(step_halving_factor(age))
 }
 
 /// How far an entry moves its price, cut toward zero: the product is below 4 * 10^37, and a 128-bit
 /// number reaches
 /// 1.7 * 10^38.
-pub fn move_along(step: Step, entry: i64) -> i128
+pub fn price_move_of_direction_entry(step: Step, entry: i64) -> i128
     requires gap { IsFrom (pos 0) (pos 2000000000000000000000000) step.gap }
     requires scale { IsFrom (pos 1) (pos 1000000000000000000000000000000000000) step.scale }
     requires entry { IsEntry entry }
@@ -102,7 +102,13 @@ fn price_of_product(row: &Row, product: Product, k: usize) -> i64
 }
 
 // A price after the step.
-fn price_after(case: &Case, row: &Row, step: Step, product: Product, k: usize) -> i64
+fn price_of_product_after_step(
+    case: &Case,
+    row: &Row,
+    step: Step,
+    product: Product,
+    k: usize,
+) -> i64
     requires row { IsRowOver (market_of case.now) (proposal_of row.now) }
     requires gap { IsFrom (pos 0) (pos 2000000000000000000000000) step.gap }
     requires scale { IsFrom (pos 1) (pos 1000000000000000000000000000000000000) step.scale }
@@ -110,8 +116,8 @@ fn price_after(case: &Case, row: &Row, step: Step, product: Product, k: usize) -
     ensures { result ≡ price_after_step (market_of case.now) (proposal_of row.now) step.gap
         step.scale product k }
 {
-    let by = move_along(step, direction_entry(case, row, product, k));
-    price_near(
+    let by = price_move_of_direction_entry(step, direction_entry(case, row, product, k));
+    clamp_to_price_limit(
         least_price_of_product(product),
         i128::from(price_of_product(row, product, k)) + by,
     )
@@ -131,6 +137,6 @@ pub fn take_step(case: &Case, row: &Row, step: Step, product: Product, into: &mu
     ensures spare { into.new.spare ≡ into.old.spare }
 {
     for k in 0..case.periods as usize {
-        into.set(k, price_after(case, row, step, product, k));
+        into.set(k, price_of_product_after_step(case, row, step, product, k));
     }
 }

@@ -13,7 +13,7 @@ use uc_model::cases::Row;
 use uc_model::units::{Flow, Powers, Response};
 
 // A total with one more power in it.
-fn total_with(total: i128, flow: Flow, power: u32) -> i128
+fn total_with_power(total: i128, flow: Flow, power: u32) -> i128
     requires { TakesPower total }
     ensures { result ≡ total +ℤ amount_of flow power }
 {
@@ -23,7 +23,7 @@ fn total_with(total: i128, flow: Flow, power: u32) -> i128
     }
 }
 
-fn add_each(totals: &mut Amounts, flow: Flow, powers: &[u32])
+fn add_powers_to_totals(totals: &mut Amounts, flow: Flow, powers: &[u32])
     requires lengths { length powers.now ≡ length totals.old.items }
     requires bound { All TakesPower totals.old.items }
     ensures raised { IsRaised totals.old.items totals.new.items
@@ -31,13 +31,13 @@ fn add_each(totals: &mut Amounts, flow: Flow, powers: &[u32])
     ensures spare { totals.new.spare ≡ totals.old.spare }
 {
     for k in 0..powers.len() {
-        totals.set(k, total_with(*totals.get(k), flow, powers[k]));
+        totals.set(k, total_with_power(*totals.get(k), flow, powers[k]));
     }
 }
 
 /// Counts the power of each period into the total of that period, in kilowatts. The lists are over
 /// the same periods, and the totals before are at most 10^30 in magnitude. Takes no memory.
-pub fn count_each(totals: &mut Amounts, flow: Flow, powers: &Powers)
+pub fn add_nonzero_powers_to_totals(totals: &mut Amounts, flow: Flow, powers: &Powers)
     requires lengths { length powers.now.items ≡ length totals.old.items }
     requires bound { All TakesPower totals.old.items }
     ensures raised { IsRaised totals.old.items totals.new.items
@@ -47,7 +47,7 @@ pub fn count_each(totals: &mut Amounts, flow: Flow, powers: &Powers)
     let powers = powers.as_slice();
     // Most responses hold no reserve.
     if !are_zero(powers) {
-        add_each(totals, flow, powers);
+        add_powers_to_totals(totals, flow, powers);
     }
 }
 
@@ -66,8 +66,8 @@ pub fn add_response(row: &mut Row, response: &Response)
     ensures prices { row.new.prices ≡ row.old.prices }
     ensures value { row.new.value ≡ row.old.value }
 {
-    count_each(&mut row.supply, Flow::Gives, &response.power);
-    count_each(&mut row.reserve, Flow::Gives, &response.reserve);
+    add_nonzero_powers_to_totals(&mut row.supply, Flow::Gives, &response.power);
+    add_nonzero_powers_to_totals(&mut row.reserve, Flow::Gives, &response.reserve);
 }
 
 /// Takes the response of a bid from the row's totals: what it buys lowers `supply`, in kilowatts.
@@ -83,5 +83,5 @@ pub fn take_bid(row: &mut Row, response: &Response)
     ensures prices { row.new.prices ≡ row.old.prices }
     ensures value { row.new.value ≡ row.old.value }
 {
-    count_each(&mut row.supply, Flow::Takes, &response.power);
+    add_nonzero_powers_to_totals(&mut row.supply, Flow::Takes, &response.power);
 }

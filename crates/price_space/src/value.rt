@@ -31,7 +31,7 @@ pub fn dual_value(case: &Case, prices: &Prices, earned: i128) -> i128
 }
 
 // What the unit of a number earns.
-fn earned_at(earned: &[i64], number: usize) -> i64
+fn earnings_of_unit_number(earned: &[i64], number: usize) -> i64
     requires { number < length earned.now }
     ensures { slice_get earned.now number ≡ Some result }
 {
@@ -39,7 +39,7 @@ fn earned_at(earned: &[i64], number: usize) -> i64
 }
 
 // The sum with one more unit in it.
-fn sum_with(sum: i128, earned: i64) -> i128
+fn sum_with_earnings(sum: i128, earned: i64) -> i128
     requires { IsSum sum }
     ensures { result ≡ sum +ℤ earned }
 {
@@ -54,7 +54,7 @@ pub fn earned_sum(earned: &[i64]) -> i128
 {
     let mut sum = 0;
     for number in 0..earned.len() {
-        sum = sum_with(sum, earned_at(earned, number));
+        sum = sum_with_earnings(sum, earnings_of_unit_number(earned, number));
     }
     sum
 }

@@ -16,7 +16,7 @@ use crate::breakpoint::Knot;
 use crate::cutting::drop_from;
 use crate::spaced::{advance, fill, open};
 use crate::splitting::along;
-use slope_list::shape_laws::effects_keep_limits;
+use slope_list::shape_laws::operations_keep_limits;
 use uc_model::units::{Block, Curve};
 
 /// Puts a knot in wherever a block ends between two knots.
@@ -149,6 +149,6 @@ pub fn curve_step(knots: &mut [Knot], used: u32, curve: &Curve, shift: i64) -> u
     let from = curve.at - shift;
     let blocks = curve.blocks.as_slice();
     let n = add_blocks(knots, used as usize, curve.value, blocks, from);
-    effects_keep_limits();
+    operations_keep_limits();
     n as u32
 }

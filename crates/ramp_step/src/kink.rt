@@ -8,7 +8,7 @@ ghost use Rattle.slope_list.specs.Table.{IsPlace, IsAmount, CanAdd};
 
 use crate::breakpoint::Knot;
 use crate::splitting::split;
-use slope_list::shape_laws::effects_keep_limits;
+use slope_list::shape_laws::operations_keep_limits;
 
 /// The knot after the worth of the reserve is taken off.
 fn lowered(knot: Knot, mu: i64, cap: i64, up: i64) -> Knot
@@ -60,6 +60,6 @@ pub fn kink_step(knots: &mut [Knot], used: u32, mu: i64, cap: i64, up: i64) -> u
 {
     let n = split(knots, used as usize, cap - up);
     lower(knots, n, mu, cap, up);
-    effects_keep_limits();
+    operations_keep_limits();
     n as u32
 }

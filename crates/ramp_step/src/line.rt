@@ -6,7 +6,7 @@ ghost use Rattle.slope_list.specs.Effect.{IsSum};
 ghost use Rattle.slope_list.specs.Table.{IsPlace, IsAmount, CanAdd};
 
 use crate::breakpoint::Knot;
-use slope_list::shape_laws::effects_keep_limits;
+use slope_list::shape_laws::operations_keep_limits;
 
 /// The knot after a line is added.
 fn on_line(knot: Knot, slope: i64) -> Knot
@@ -45,5 +45,5 @@ pub fn line_step(knots: &mut [Knot], used: u32, slope: i64)
     ensures breaks { AreBreaks knots.new used }
 {
     raise_line(knots, used as usize, slope);
-    effects_keep_limits();
+    operations_keep_limits();
 }

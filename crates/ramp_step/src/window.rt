@@ -10,7 +10,7 @@ ghost use Rattle.ramp_step.specs.Window.{IsTurn, AreSpread, AreWindow};
 
 use crate::breakpoint::Knot;
 use crate::cutting::{cut_above, cut_below};
-use slope_list::shape_laws::effects_keep_limits;
+use slope_list::shape_laws::operations_keep_limits;
 
 /// The knot moved to the right.
 fn later(knot: Knot, by: i64) -> Knot
@@ -118,6 +118,6 @@ pub fn window_step(knots: &mut [Knot], used: u32, up: i64, down: i64, lo: i64, h
     let moved = shift(knots, used as usize, up, down);
     let kept = cut_above(knots, moved, hi);
     let left = cut_below(knots, kept, lo);
-    effects_keep_limits();
+    operations_keep_limits();
     left as u32
 }

@@ -17,7 +17,7 @@ pub struct Title<'a> {
 }
 
 /// The title of the unit or bid of a number.
-pub fn title_at(case: &Case, number: usize) -> Title<'_>
+pub fn title_of_unit(case: &Case, number: usize) -> Title<'_>
     requires { number < unit_count (market_of case.now) }
     ensures { slice_get (titles (market_of case.now)) number
         ≡ Some (record { kind = result.kind; name = result.name.now }) }

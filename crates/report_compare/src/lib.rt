@@ -17,5 +17,5 @@ mod wrong;
 pub use audited::Audited;
 pub use compare_room::CompareRoom;
 pub use report::first_difference;
-pub use verdict::{Audit, opening_right, verdict_of_rows};
+pub use verdict::{Audit, audit_result_of_right_rows, check_opening_lines};
 pub use wrong::WrongLine;

@@ -32,7 +32,7 @@ fn same_chosen_proposal(report: &Report, chosen: usize, value: i128) -> bool
 }
 
 /// The first six lines. Budget and number of proposals ahead are the report's own.
-pub fn compare_opening(case: &Case, cost: i128, report: &Report) -> Result<u32, WrongLine>
+pub fn compare_first_six_lines(case: &Case, cost: i128, report: &Report) -> Result<u32, WrongLine>
     ensures lines { Compares 1 result (opening_lines (report_of report.now))
         (right_opening (market_of case.now) cost (report_of report.now)) }
     ensures units { IfOk result (λ next. report.now.units ≡ unit_count (market_of case.now)) }
@@ -50,7 +50,11 @@ pub fn compare_opening(case: &Case, cost: i128, report: &Report) -> Result<u32, 
 }
 
 /// The line that says how many proposals there are.
-fn compare_number(first: u32, proposals: usize, report: &Report) -> Result<u32, WrongLine>
+fn compare_proposal_count_line(
+    first: u32,
+    proposals: usize,
+    report: &Report,
+) -> Result<u32, WrongLine>
     requires { first + 1 < 2 ^ 32 }
     ensures lines { Compares first result
         (number_line (length (report_of report.now).rows) ∷ []) (number_line proposals ∷ []) }
@@ -73,8 +77,8 @@ pub fn compare_head(
     ensures proposals { IfOk result (λ next. length report.now.rows.items ≡ proposals) }
     ensures next { IfOk result (λ next. next ≡ 8) }
 {
-    let line = compare_opening(case, cost, report)?;
-    compare_number(line, proposals, report)
+    let line = compare_first_six_lines(case, cost, report)?;
+    compare_proposal_count_line(line, proposals, report)
 }
 
 /// The line of the chosen proposal.

@@ -23,10 +23,10 @@ use crate::rows::compare_rows;
 use crate::units::compare_units;
 use crate::wrong::WrongLine;
 use price_settle::settle;
-use price_space::greatest_row;
+use price_space::row_of_greatest_dual_value;
 use report_form::laws::text_determines_the_report;
 use right_report::laws::{
-    one_report_is_right, right_report_has_form, settlements_are_of_all_units,
+    one_report_is_right, right_report_has_form, settlement_has_entry_for_each_unit,
 };
 use uc_model::cases::Row;
 use uc_model::laws::{dual_values_are_within, plan_costs_are_within};
@@ -106,9 +106,9 @@ pub fn first_difference(
     text_determines_the_report();
     right_report_has_form();
     one_report_is_right();
-    settlements_are_of_all_units();
+    settlement_has_entry_for_each_unit();
     dual_values_are_within();
-    let chosen = greatest_row(rows);
+    let chosen = row_of_greatest_dual_value(rows);
     let row = &rows[chosen];
     earn_all(
         &mut compare_room.bench,

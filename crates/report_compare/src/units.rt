@@ -16,20 +16,20 @@ ghost use Rattle.report_compare.specs.ReportLines.{response_lines, unit_lines, t
 ghost use Rattle.report_compare.specs.RightLines.{answers_of, titles, told_from};
 
 use crate::compare_room::CompareRoom;
-use crate::due::{Title, title_at};
+use crate::due::{Title, title_of_unit};
 use crate::lines::{same_flags, same_name, same_powers};
 use crate::wrong::{WrongLine, first_wrong_line};
 use report_form::report::Owed;
 use report_read::UnitLine;
 use uc_model::cases::Case;
 use uc_model::kinds::Kind;
-use uc_model::laws::one_schedule_is_least;
+use uc_model::laws::least_best_schedule_is_unique;
 use uc_model::units::{Prices, Response};
-use unit_program::answer_numbered_unit;
-use unit_program::case_laws::units_can_answer;
+use unit_program::case_laws::feasible_units_can_answer;
+use unit_program::write_best_response_of_numbered_unit;
 
 // Whether the money is what a unit earns and is owed.
-fn same_money(mine: &UnitLine, owed: &Owed) -> bool
+fn are_unit_amounts_same(mine: &UnitLine, owed: &Owed) -> bool
     ensures { Decides result ((mine.now.earned ≡ owed.now.earned)
         × (mine.now.scheduled ≡ owed.now.scheduled) × (mine.now.payment ≡ owed.now.payment)) }
 {
@@ -37,7 +37,7 @@ fn same_money(mine: &UnitLine, owed: &Owed) -> bool
 }
 
 // Whether kind and name are those of a unit.
-fn same_title(mine: &UnitLine, title: &Title<'_>) -> bool
+fn is_unit_title_same(mine: &UnitLine, title: &Title<'_>) -> bool
     ensures { Decides result ((mine.now.kind ≡ title.now.kind)
         × (mine.now.name.items ≡ title.now.name.now)) }
 {
@@ -68,7 +68,7 @@ fn compare_response(
 }
 
 // The lines of a unit, of which the first has the number `first`.
-fn same_unit(
+fn compare_unit_lines(
     first: u32,
     mine: &UnitLine,
     title: &Title<'_>,
@@ -81,14 +81,14 @@ fn same_unit(
         (owed_line title.now.name.now owed.now (schedule_of right.now))) }
     ensures few { IfOk result (λ next. next ≤ first + 4) }
 {
-    if !same_title(mine, title) || !same_money(mine, owed) {
+    if !is_unit_title_same(mine, title) || !are_unit_amounts_same(mine, owed) {
         return Err(WrongLine { line: first });
     }
     compare_response(first + 1, title.kind, &mine.response, right)
 }
 
 // What the unit of a number earns at best and in the plan, and what it is owed.
-fn owed_at(compare_room: &CompareRoom, number: usize) -> Owed
+fn earnings_and_payment_of_unit(compare_room: &CompareRoom, number: usize) -> Owed
     requires earned { number < length compare_room.now.earned.items }
     requires scheduled { number < length compare_room.now.settlement.scheduled.items }
     requires payments { number < length compare_room.now.settlement.payments.items }
@@ -128,11 +128,11 @@ pub fn compare_units(
     ensures few { IfOk result (λ next. next ≤ first + 4 * length lines.now) }
     ensures settlement { compare_room.new.settlement ≡ compare_room.old.settlement }
 {
-    one_schedule_is_least();
-    units_can_answer();
+    least_best_schedule_is_unique();
+    feasible_units_can_answer();
     let mut line = first;
     for number in 0..lines.len() {
-        answer_numbered_unit(
+        write_best_response_of_numbered_unit(
             &mut compare_room.bench,
             &compare_room.last,
             case,
@@ -140,9 +140,9 @@ pub fn compare_units(
             number,
             &mut compare_room.answer,
         );
-        let owed = owed_at(compare_room, number);
-        let title = title_at(case, number);
-        line = same_unit(
+        let owed = earnings_and_payment_of_unit(compare_room, number);
+        let title = title_of_unit(case, number);
+        line = compare_unit_lines(
             line,
             &lines[number],
             &title,

@@ -10,11 +10,11 @@ ghost use Rattle.report_compare.specs.declared.verdict.Audit.TheVariants.{Right}
 
 use crate::audited::Audited;
 use crate::compare_room::CompareRoom;
-use crate::parts::compare_opening;
+use crate::parts::compare_first_six_lines;
 use crate::report::first_difference;
 use crate::wrong::WrongLine;
 use report_form::laws::text_determines_the_report;
-use right_report::laws::{one_list_is_the_run, one_report_is_right, right_reports_exist};
+use right_report::laws::{one_report_is_right, right_reports_exist, rows_of_run_are_unique};
 use uc_model::cases::Row;
 
 /// The line that says how many proposals there are.
@@ -30,7 +30,7 @@ pub enum Audit {
 }
 
 /// The first of the lines before the number of proposals that isn't right.
-pub fn opening_right(audited: &Audited<'_>) -> Result<u32, WrongLine>
+pub fn check_opening_lines(audited: &Audited<'_>) -> Result<u32, WrongLine>
     ensures right { IfOk result (λ next. HasRightOpening audited.now) }
     ensures wrong { IfErr result (λ wrong. IsWrongAt audited.now wrong.line
         × (IsRight audited.now → ⊥)) }
@@ -38,12 +38,16 @@ pub fn opening_right(audited: &Audited<'_>) -> Result<u32, WrongLine>
     text_determines_the_report();
     one_report_is_right();
     right_reports_exist();
-    compare_opening(audited.case, audited.cost, audited.report)
+    compare_first_six_lines(audited.case, audited.cost, audited.report)
 }
 
 /// What the rows tell of a report whose first six lines are right. They are the run, up to one row
 /// more than the report has. The compare_room suffices for the case. Takes no memory.
-pub fn verdict_of_rows(audited: &Audited<'_>, rows: &[Row], compare_room: &mut CompareRoom) -> Audit
+pub fn audit_result_of_right_rows(
+    audited: &Audited<'_>,
+    rows: &[Row],
+    compare_room: &mut CompareRoom,
+) -> Audit
     requires opening { HasRightOpening audited.now }
     requires run { let r = report_of audited.now.report.now in
         IsRun Fits (market_of audited.now.case.now) audited.now.cost
@@ -54,7 +58,7 @@ pub fn verdict_of_rows(audited: &Audited<'_>, rows: &[Row], compare_room: &mut C
 {
     text_determines_the_report();
     one_report_is_right();
-    one_list_is_the_run();
+    rows_of_run_are_unique();
     right_reports_exist();
     let right = rows.len();
     let told = audited.report.rows.len();

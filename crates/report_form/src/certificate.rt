@@ -2,7 +2,7 @@
 ghost use Rattle.hull_io.specs.Edge.{Writes};
 ghost use Rattle.report_form.specs.CertificateText.{certificate_in, certificate_text};
 
-use crate::form::write_form;
+use crate::form::write_form_filled_with_parts;
 use crate::parts::Part;
 use hull_io::{Sink, WriteFailed};
 
@@ -47,7 +47,7 @@ pub fn write_certificate_lines<S: Sink>(
     ensures { Writes S.held S.faults S.last out.old out.new result
         (certificate_text (certificate_in lines.now)) }
 {
-    write_form(
+    write_form_filled_with_parts(
         out,
         b"hull-certificate 1\nperiods %\nunits %\ncost %\nvalue %\nsurplus %\npayments %\n\
           gap %\nradius %\nbound %\ndistance %\nleast %\nend\n",

@@ -5,8 +5,8 @@ ghost use Rattle.uc_model.specs.PlainUnits.{schedule_of};
 ghost use Rattle.report_form.specs.ConvexText.{search_text, searched_text, weighed_text, share_text};
 ghost use Rattle.report_form.specs.ConvexText.{mixed_text, bounded_text};
 
-use crate::form::write_form;
-use crate::laws::texts_add_up;
+use crate::form::write_form_filled_with_parts;
+use crate::laws::texts_written_in_turn_add_up;
 use crate::parts::Part;
 use crate::settlement::write_prices_and_totals;
 use hull_io::{Sink, WriteFailed};
@@ -34,12 +34,12 @@ pub struct SearchLines {
 
 // Writes the lines before the prices.
 #[tactic(auto, unfolding(crate::specs::ConvexText::search_text))]
-fn write_search_opening<S: Sink>(lines: &SearchLines, out: &mut S) -> Result<(), WriteFailed>
+fn write_convex_opening<S: Sink>(lines: &SearchLines, out: &mut S) -> Result<(), WriteFailed>
     ensures { Writes S.held S.faults S.last out.old out.new result
         (search_text lines.now.periods lines.now.units lines.now.cost lines.now.within
         lines.now.rounds lines.now.made) }
 {
-    write_form(
+    write_form_filled_with_parts(
         out,
         b"hull-convex 1\nperiods %\nunits %\ncost %\nwithin %\nrounds %\nmade %\n",
         &[
@@ -56,7 +56,7 @@ fn write_search_opening<S: Sink>(lines: &SearchLines, out: &mut S) -> Result<(),
 /// Writes the lines before the units: what the search was and the prices that it found, with their
 /// dual value and the totals of the best responses.
 #[tactic(auto, unfolding(crate::specs::ConvexText::searched_text))]
-pub fn write_search_before_units<S: Sink>(
+pub fn write_convex_lines_before_units<S: Sink>(
     lines: &SearchLines,
     row: &Row,
     out: &mut S,
@@ -65,15 +65,15 @@ pub fn write_search_before_units<S: Sink>(
         (searched_text lines.now.periods lines.now.units lines.now.cost lines.now.within
         lines.now.rounds lines.now.made (proposal_of row.now)) }
 {
-    texts_add_up::<S>();
-    write_search_opening(lines, out)?;
+    texts_written_in_turn_add_up::<S>();
+    write_convex_opening(lines, out)?;
     write_prices_and_totals(row, out)
 }
 
 /// Writes the lines behind the units: in money what the surplus reserve of the plan is worth, the
 /// sum of the payments, and the cost of the plan less the dual value; and the mixture's weight.
 #[tactic(auto, unfolding(crate::specs::ConvexText::weighed_text))]
-pub fn write_search_totals<S: Sink>(
+pub fn write_convex_totals<S: Sink>(
     surplus: i128,
     payments: i128,
     gap: i128,
@@ -83,7 +83,7 @@ pub fn write_search_totals<S: Sink>(
     ensures { Writes S.held S.faults S.last out.old out.new result
         (weighed_text surplus payments gap weight) }
 {
-    write_form(
+    write_form_filled_with_parts(
         out,
         b"surplus %\npayments %\ngap %\nweight %\n",
         &[
@@ -102,7 +102,7 @@ pub fn write_mixture_unit<S: Sink>(name: &str, entries: u64, out: &mut S) -> Res
         (mixed_text name.now entries) }
 {
     let bytes = name.as_bytes();
-    write_form(
+    write_form_filled_with_parts(
         out,
         b"mixture thermal % entries %\n",
         &[Part::Name(bytes), Part::Count(entries)],
@@ -122,7 +122,7 @@ pub fn write_mixture_entry<S: Sink>(
     let on = schedule.on.as_slice();
     let power = schedule.power.as_slice();
     let reserve = schedule.reserve.as_slice();
-    write_form(
+    write_form_filled_with_parts(
         out,
         b"share %\non%\npower%\nreserve%\n",
         &[
@@ -137,7 +137,7 @@ pub fn write_mixture_entry<S: Sink>(
 /// Writes the last lines, in money: the bound on the dual value of all prices, how far it is above
 /// that of the prices found, and what payments and surplus sum to at least.
 #[tactic(auto, unfolding(crate::specs::ConvexText::bounded_text))]
-pub fn write_search_bound<S: Sink>(
+pub fn write_convex_bound<S: Sink>(
     bound: i128,
     distance: i128,
     least: i128,
@@ -146,7 +146,7 @@ pub fn write_search_bound<S: Sink>(
     ensures { Writes S.held S.faults S.last out.old out.new result
         (bounded_text bound distance least) }
 {
-    write_form(
+    write_form_filled_with_parts(
         out,
         b"bound %\ndistance %\nleast %\nend\n",
         &[

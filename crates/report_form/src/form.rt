@@ -6,7 +6,7 @@ ghost use Rattle.report_form.specs.Parts.{part_text};
 ghost use Rattle.report_form.specs.Forms.{is_blank, filled};
 ghost use Rattle.report_form.specs.Pending.{Adds};
 
-use crate::parts::{Part, add_part};
+use crate::parts::{Part, add_form_part};
 use crate::pieces::{Piece, add_bytes};
 use hull_io::{Sink, WriteFailed, write_whole};
 
@@ -18,18 +18,18 @@ struct Cut<'a> {
 }
 
 // Where the first blank is, if there is one.
-fn first_blank_in(form: &[u8]) -> Option<usize>
+fn first_placeholder_in_form(form: &[u8]) -> Option<usize>
     ensures { result ≡ position is_blank form.now }
 {
     form.iter().position(|byte| *byte == b'%')
 }
 
 // The form cut at its first blank; all of it is before where there is none.
-fn cut_at_blank(form: &[u8]) -> Cut<'_>
+fn cut_form_at_placeholder(form: &[u8]) -> Cut<'_>
     ensures before { result.before.now ≡ before_first is_blank form.now }
     ensures behind { result.behind.now ≡ after_first is_blank form.now }
 {
-    match first_blank_in(form) {
+    match first_placeholder_in_form(form) {
         Some(index) => Cut {
             before: &form[..index],
             behind: &form[index + 1..],
@@ -51,10 +51,14 @@ fn add_text_and_part<S: Sink>(
         (text.now ++ part_text part.now) }
 {
     add_bytes(out, piece, text)?;
-    add_part(out, piece, part)
+    add_form_part(out, piece, part)
 }
 
-fn write_rest<S: Sink>(out: &mut S, piece: Piece, text: &[u8]) -> Result<(), WriteFailed>
+fn write_buffered_text_and_rest<S: Sink>(
+    out: &mut S,
+    piece: Piece,
+    text: &[u8],
+) -> Result<(), WriteFailed>
     ensures { Writes S.held S.faults S.last out.old out.new result (piece ++ text.now) }
 {
     let mut piece = piece;
@@ -65,15 +69,19 @@ fn write_rest<S: Sink>(out: &mut S, piece: Piece, text: &[u8]) -> Result<(), Wri
 /// Writes a form with its blanks filled, each `%` by the next part, in pieces of some KiB. A blank
 /// that no part is left for stays, and parts that no blank is left for come last. Refused only where the
 /// sink's count of faults rose, and then the sink gained a front of the text.
-pub fn write_form<S: Sink>(out: &mut S, form: &[u8], parts: &[Part<'_>]) -> Result<(), WriteFailed>
+pub fn write_form_filled_with_parts<S: Sink>(
+    out: &mut S,
+    form: &[u8],
+    parts: &[Part<'_>],
+) -> Result<(), WriteFailed>
     ensures { Writes S.held S.faults S.last out.old out.new result (filled form.now parts.now) }
 {
     let mut piece = Piece::new();
     let mut rest = form;
     for part in parts {
-        let cut = cut_at_blank(rest);
+        let cut = cut_form_at_placeholder(rest);
         add_text_and_part(out, &mut piece, cut.before, part)?;
         rest = cut.behind;
     }
-    write_rest(out, piece, rest)
+    write_buffered_text_and_rest(out, piece, rest)
 }

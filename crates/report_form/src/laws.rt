@@ -8,7 +8,7 @@ use hull_io::Sink;
 
 /// Two texts that a sink gained one after the other are one text that it gained. Where the second
 /// was cut short, so was the one; where the first was, so is any text that goes on from it.
-pub fn texts_add_up<S: Sink>()
+pub fn texts_written_in_turn_add_up<S: Sink>()
     ensures { GainsAddUp S.held S.faults S.last }
 {}
 
@@ -30,6 +30,6 @@ pub fn text_determines_the_certificate()
 
 /// Two searches for convex hull prices with equal texts are equal: prices, settlement, mixture and
 /// bound. Of renewable units and bids only the power is told, as in a settlement.
-pub fn text_determines_the_search()
+pub fn text_determines_the_convex_report()
     ensures { TextDeterminesConvex }
 {}

@@ -10,5 +10,5 @@ mod pieces;
 pub mod report;
 pub mod settlement;
 
-pub use form::write_form;
+pub use form::write_form_filled_with_parts;
 pub use parts::Part;

@@ -4,7 +4,7 @@ ghost use Rattle.std.specs.List.{flat_map, list_all};
 ghost use Rattle.report_form.specs.Parts.{part_text, hex_of, stands_as_is, escaped, quoted, tally};
 ghost use Rattle.report_form.specs.Pending.{Adds};
 
-use crate::pieces::{Listed, Piece, add_bytes, add_items, add_number, add_worded};
+use crate::pieces::{Listed, Piece, add_bytes, add_list_items, add_number, add_word_and_number};
 use hull_io::{Sink, WriteFailed};
 
 /// A part of a text.
@@ -31,7 +31,7 @@ pub enum Part<'a> {
 }
 
 #[tactic(auto, using(crate::proofs::PieceLemmas::adds_nothing))]
-fn add_tally<S: Sink>(
+fn add_word_and_nonzero_number<S: Sink>(
     out: &mut S,
     piece: &mut Piece,
     word: &[u8],
@@ -43,7 +43,7 @@ fn add_tally<S: Sink>(
     if n == 0 {
         return Ok(());
     }
-    add_worded(out, piece, word, n)
+    add_word_and_number(out, piece, word, n)
 }
 
 /// A hexadecimal digit, in lower case.
@@ -55,7 +55,7 @@ fn hex_digit(k: u8) -> u8
 }
 
 /// Whether a byte of a name stands as it is: it is no control character, no quote and no backslash.
-pub fn is_plain(byte: u8) -> bool
+pub fn is_unescaped_byte(byte: u8) -> bool
     ensures { result ≡ stands_as_is byte }
 {
     byte >= 32 && byte != b'"' && byte != b'\\'
@@ -66,7 +66,7 @@ impl Listed for u8 {
     ghost told = { escaped };
 
     fn add<S: Sink>(self, out: &mut S, piece: &mut Piece) -> Result<(), WriteFailed> {
-        if is_plain(self) {
+        if is_unescaped_byte(self) {
             add_bytes(out, piece, &[self])
         } else if self < 32 {
             add_bytes(
@@ -87,35 +87,39 @@ impl Listed for u8 {
     }
 }
 
-fn is_all_plain(name: &[u8]) -> bool
+fn has_no_byte_to_escape(name: &[u8]) -> bool
     ensures { result ≡ list_all stands_as_is name.now }
 {
-    name.iter().all(|byte| is_plain(*byte))
+    name.iter().all(|byte| is_unescaped_byte(*byte))
 }
 
 /// Most names need no escape and are added at once.
-fn add_inside<S: Sink>(out: &mut S, piece: &mut Piece, name: &[u8]) -> Result<(), WriteFailed>
+fn add_escaped_name_bytes<S: Sink>(
+    out: &mut S,
+    piece: &mut Piece,
+    name: &[u8],
+) -> Result<(), WriteFailed>
     ensures { Adds S.held S.faults S.last out.old out.new result piece.old piece.new
         (flat_map escaped name.now) }
 {
-    if is_all_plain(name) {
+    if has_no_byte_to_escape(name) {
         add_bytes(out, piece, name)
     } else {
-        add_items(out, piece, name)
+        add_list_items(out, piece, name)
     }
 }
 
-fn add_name<S: Sink>(out: &mut S, piece: &mut Piece, name: &[u8]) -> Result<(), WriteFailed>
+fn add_quoted_name<S: Sink>(out: &mut S, piece: &mut Piece, name: &[u8]) -> Result<(), WriteFailed>
     ensures { Adds S.held S.faults S.last out.old out.new result piece.old piece.new
         (quoted name.now) }
 {
     add_bytes(out, piece, b"\"")?;
-    add_inside(out, piece, name)?;
+    add_escaped_name_bytes(out, piece, name)?;
     add_bytes(out, piece, b"\"")
 }
 
 /// Adds a part.
-pub(crate) fn add_part<S: Sink>(
+pub(crate) fn add_form_part<S: Sink>(
     out: &mut S,
     piece: &mut Piece,
     part: &Part<'_>,
@@ -127,11 +131,11 @@ pub(crate) fn add_part<S: Sink>(
         Part::Text(bytes) => add_bytes(out, piece, bytes),
         Part::Count(n) => add_number(out, piece, n),
         Part::Amount(x) => add_number(out, piece, x),
-        Part::Counts(ns) => add_items(out, piece, ns),
-        Part::Numbers(xs) => add_items(out, piece, xs),
-        Part::Amounts(xs) => add_items(out, piece, xs),
-        Part::Flags(flags) => add_items(out, piece, flags),
-        Part::Tally(word, n) => add_tally(out, piece, word, n),
-        Part::Name(name) => add_name(out, piece, name),
+        Part::Counts(ns) => add_list_items(out, piece, ns),
+        Part::Numbers(xs) => add_list_items(out, piece, xs),
+        Part::Amounts(xs) => add_list_items(out, piece, xs),
+        Part::Flags(flags) => add_list_items(out, piece, flags),
+        Part::Tally(word, n) => add_word_and_nonzero_number(out, piece, word, n),
+        Part::Name(name) => add_quoted_name(out, piece, name),
     }
 }

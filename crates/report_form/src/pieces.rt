@@ -105,7 +105,7 @@ pub fn add_number<S: Sink, I: Integer>(
 }
 
 /// Adds a word, and a number in decimal digits.
-pub fn add_worded<S: Sink, I: Integer>(
+pub fn add_word_and_number<S: Sink, I: Integer>(
     out: &mut S,
     piece: &mut Piece,
     word: &[u8],
@@ -135,7 +135,7 @@ impl Listed for u32 {
     ghost told = { λ n. 32 ∷ numeral n };
 
     fn add<S: Sink>(self, out: &mut S, piece: &mut Piece) -> Result<(), WriteFailed> {
-        add_worded(out, piece, b" ", self)
+        add_word_and_number(out, piece, b" ", self)
     }
 }
 
@@ -144,7 +144,7 @@ impl Listed for i64 {
     ghost told = { λ x. 32 ∷ signed_numeral x };
 
     fn add<S: Sink>(self, out: &mut S, piece: &mut Piece) -> Result<(), WriteFailed> {
-        add_worded(out, piece, b" ", self)
+        add_word_and_number(out, piece, b" ", self)
     }
 }
 
@@ -153,7 +153,7 @@ impl Listed for i128 {
     ghost told = { λ x. 32 ∷ signed_numeral x };
 
     fn add<S: Sink>(self, out: &mut S, piece: &mut Piece) -> Result<(), WriteFailed> {
-        add_worded(out, piece, b" ", self)
+        add_word_and_number(out, piece, b" ", self)
     }
 }
 
@@ -167,7 +167,7 @@ impl Listed for bool {
 }
 
 /// Adds what a list has, one behind the other.
-pub fn add_items<S: Sink, L: Listed>(
+pub fn add_list_items<S: Sink, L: Listed>(
     out: &mut S,
     piece: &mut Piece,
     items: &[L],

@@ -8,7 +8,7 @@ ghost use Rattle.report_form.specs.ReportText.{head_text, row_text, rows_text, c
 ghost use Rattle.report_form.specs.ReportText.{thermal_text, flat_text, unit_text, owed_line};
 ghost use Rattle.report_form.specs.ReportText.{foot_text};
 
-use crate::form::write_form;
+use crate::form::write_form_filled_with_parts;
 use crate::parts::Part;
 use hull_io::{Sink, WriteFailed};
 use uc_model::cases::{NamedRef, Row, UnitRef};
@@ -50,7 +50,7 @@ pub fn write_report_head<S: Sink>(head: &Head, out: &mut S) -> Result<(), WriteF
         (head_text head.now.periods head.now.units head.now.budget head.now.ahead head.now.cost
         head.now.proposals) }
 {
-    write_form(
+    write_form_filled_with_parts(
         out,
         b"hull-report 1\nperiods %\nunits %\nbudget %\nahead %\ncost %\nproposals %\n",
         &[
@@ -66,7 +66,11 @@ pub fn write_report_head<S: Sink>(head: &Head, out: &mut S) -> Result<(), WriteF
 
 /// Writes a proposal: its prices, its dual value, and the totals of the best responses to it.
 #[tactic(auto, unfolding(crate::specs::ReportText::row_text))]
-pub(crate) fn write_row<S: Sink>(number: u32, row: &Row, out: &mut S) -> Result<(), WriteFailed>
+pub(crate) fn write_proposal_lines<S: Sink>(
+    number: u32,
+    row: &Row,
+    out: &mut S,
+) -> Result<(), WriteFailed>
     ensures { Writes S.held S.faults S.last out.old out.new result
         (row_text number (proposal_of row.now)) }
 {
@@ -74,7 +78,7 @@ pub(crate) fn write_row<S: Sink>(number: u32, row: &Row, out: &mut S) -> Result<
     let reserve = row.prices.reserve.as_slice();
     let supplied = row.supply.as_slice();
     let reserved = row.reserve.as_slice();
-    write_form(
+    write_form_filled_with_parts(
         out,
         b"proposal % value %\nenergy%\nreserve%\nsupplied%\nreserved%\n",
         &[
@@ -89,13 +93,13 @@ pub(crate) fn write_row<S: Sink>(number: u32, row: &Row, out: &mut S) -> Result<
 }
 
 /// Writes the proposals, numbered from 1.
-pub fn write_rows<S: Sink>(rows: &[Row], out: &mut S) -> Result<(), WriteFailed>
+pub fn write_all_proposals<S: Sink>(rows: &[Row], out: &mut S) -> Result<(), WriteFailed>
     requires { length rows.now ≤ MOST_PROPOSALS }
     ensures { Writes S.held S.faults S.last out.old out.new result
         (rows_text 1 (map proposal_of rows.now)) }
 {
     for (index, row) in rows.iter().enumerate() {
-        write_row(1 + index as u32, row, out)?;
+        write_proposal_lines(1 + index as u32, row, out)?;
     }
     Ok(())
 }
@@ -105,7 +109,7 @@ pub fn write_rows<S: Sink>(rows: &[Row], out: &mut S) -> Result<(), WriteFailed>
 pub fn write_chosen<S: Sink>(number: u32, value: i128, out: &mut S) -> Result<(), WriteFailed>
     ensures { Writes S.held S.faults S.last out.old out.new result (chosen_text number value) }
 {
-    write_form(
+    write_form_filled_with_parts(
         out,
         b"chosen % value %\n",
         &[Part::Count(number as u64), Part::Amount(value)],
@@ -127,7 +131,7 @@ fn write_thermal<'a, S: Sink>(
     let on = response.on.as_slice();
     let power = response.power.as_slice();
     let reserve = response.reserve.as_slice();
-    write_form(
+    write_form_filled_with_parts(
         out,
         b"unit thermal % earned % scheduled % payment %\non%\npower%\nreserve%\n",
         &[
@@ -145,7 +149,7 @@ fn write_thermal<'a, S: Sink>(
 // Writes the lines of a unit that is always on and gives no reserve. `kind` is what they begin
 // with.
 #[tactic(auto, unfolding(crate::specs::ReportText::flat_text))]
-fn write_flat<'a, S: Sink>(
+fn write_always_on_unit_lines<'a, S: Sink>(
     kind: &'a [u8],
     name: &'a str,
     owed: &Owed,
@@ -157,7 +161,7 @@ fn write_flat<'a, S: Sink>(
 {
     let bytes = name.as_bytes();
     let power = response.power.as_slice();
-    write_form(
+    write_form_filled_with_parts(
         out,
         b"%% earned % scheduled % payment %\npower%\n",
         &[
@@ -184,8 +188,16 @@ pub fn write_unit<S: Sink>(
 {
     match named.unit {
         UnitRef::Thermal(_) => write_thermal(named.name, owed, response, out),
-        UnitRef::Renewable(_) => { write_flat(b"unit renewable ", named.name, owed, response, out) }
-        UnitRef::Bid(_) => write_flat(b"unit bid ", named.name, owed, response, out),
+        UnitRef::Renewable(_) => {
+            write_always_on_unit_lines(b"unit renewable ", named.name, owed, response, out)
+        }
+        UnitRef::Bid(_) => write_always_on_unit_lines(
+            b"unit bid ",
+            named.name,
+            owed,
+            response,
+            out,
+        ),
     }
 }
 
@@ -201,7 +213,7 @@ pub fn write_report_foot<S: Sink>(
     ensures { Writes S.held S.faults S.last out.old out.new result
         (foot_text surplus payments gap) }
 {
-    write_form(
+    write_form_filled_with_parts(
         out,
         b"surplus %\npayments %\ngap %\nend\n",
         &[

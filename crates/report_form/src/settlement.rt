@@ -3,8 +3,8 @@ ghost use Rattle.hull_io.specs.Edge.{Writes};
 ghost use Rattle.uc_model.specs.PlainCases.{proposal_of};
 ghost use Rattle.report_form.specs.SettlementText.{levels_text, opening_text, priced_text};
 
-use crate::form::write_form;
-use crate::laws::texts_add_up;
+use crate::form::write_form_filled_with_parts;
+use crate::laws::texts_written_in_turn_add_up;
 use crate::parts::Part;
 use hull_io::{Sink, WriteFailed};
 use uc_model::cases::Row;
@@ -20,7 +20,7 @@ fn write_settlement_opening<S: Sink>(
     ensures { Writes S.held S.faults S.last out.old out.new result
         (opening_text periods units cost) }
 {
-    write_form(
+    write_form_filled_with_parts(
         out,
         b"hull-settlement 1\nperiods %\nunits %\ncost %\n",
         &[
@@ -41,7 +41,7 @@ pub(crate) fn write_prices_and_totals<S: Sink>(row: &Row, out: &mut S) -> Result
     let reserve = row.prices.reserve.as_slice();
     let supplied = row.supply.as_slice();
     let reserved = row.reserve.as_slice();
-    write_form(
+    write_form_filled_with_parts(
         out,
         b"value %\nenergy%\nreserve%\nsupplied%\nreserved%\n",
         &[
@@ -67,7 +67,7 @@ pub fn write_settlement_before_units<S: Sink>(
     ensures { Writes S.held S.faults S.last out.old out.new result
         (priced_text periods units cost (proposal_of row.now)) }
 {
-    texts_add_up::<S>();
+    texts_written_in_turn_add_up::<S>();
     write_settlement_opening(periods, units, cost, out)?;
     write_prices_and_totals(row, out)
 }

@@ -25,6 +25,6 @@ pub mod UnitForms
 -- read.rt: the whole report
 pub mod WholeForm
 -- laws.rt: at most one line is in fault, and one is the first that differs
-pub mod OneFault
+pub mod AtMostOneLineIsInFault
 -- The lemmas that answers cite.
 pub mod Lemmas

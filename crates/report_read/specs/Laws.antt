@@ -10,14 +10,14 @@ abbrev pub OneReport : Type 0
 OneReport = (a b : Report) → IsReport a → IsReport b → report_text a ≡ report_text b → a ≡ b
 
 -- each file is the text of one, or has a line in fault
-abbrev pub ReportOrFault : Type 0
-ReportOrFault =
+abbrev pub EachTextIsReportOrHasFault : Type 0
+EachTextIsReportOrHasFault =
     (bytes : List ℕ) → ((r : Report) × IsReport r × (bytes ≡ report_text r))
     ⊎ ((line : ℕ) × IsFault bytes line)
 
 -- a file has at most one line in fault
-abbrev pub OneFault : Type 0
-OneFault = (bytes : List ℕ) (k l : ℕ) → IsFault bytes k → IsFault bytes l → k ≡ l
+abbrev pub AtMostOneLineIsInFault : Type 0
+AtMostOneLineIsInFault = (bytes : List ℕ) (k l : ℕ) → IsFault bytes k → IsFault bytes l → k ≡ l
 
 -- two texts differ first at one line at most
 abbrev pub OneDifference : Type 0

@@ -1,7 +1,7 @@
 //! The lines before the proposals and behind the units.
 ghost use Rattle.report_read.specs.Lines.{Gives, head_at, foot_at};
 
-use crate::lines::{Reader, amount_line, count_line, word_line};
+use crate::lines::{Reader, read_amount_line, read_count_line, read_word_line};
 use crate::stop::Stop;
 use plain_lists::limits::{MOST_AHEAD, MOST_PROPOSALS, MOST_UNITS};
 use report_form::report::Head;
@@ -23,13 +23,13 @@ pub struct Foot {
 pub fn read_head(reader: &mut Reader<'_>) -> Result<Head, Stop>
     ensures { Gives (λ x. (x, reader.new.rest.now)) result (head_at reader.old.rest.now) }
 {
-    word_line(reader, b"hull-report 1")?;
-    let periods = count_line(reader, b"periods ", 1, MOST_PERIODS)?;
-    let units = count_line(reader, b"units ", 1, MOST_UNITS)?;
-    let budget = count_line(reader, b"budget ", 1, MOST_PROPOSALS)?;
-    let ahead = count_line(reader, b"ahead ", 1, MOST_AHEAD)?;
-    let cost = amount_line(reader, b"cost ")?;
-    let proposals = count_line(reader, b"proposals ", 1, u32::MAX)?;
+    read_word_line(reader, b"hull-report 1")?;
+    let periods = read_count_line(reader, b"periods ", 1, MOST_PERIODS)?;
+    let units = read_count_line(reader, b"units ", 1, MOST_UNITS)?;
+    let budget = read_count_line(reader, b"budget ", 1, MOST_PROPOSALS)?;
+    let ahead = read_count_line(reader, b"ahead ", 1, MOST_AHEAD)?;
+    let cost = read_amount_line(reader, b"cost ")?;
+    let proposals = read_count_line(reader, b"proposals ", 1, u32::MAX)?;
     Ok(Head {
         periods,
         units,
@@ -45,10 +45,10 @@ pub fn read_head(reader: &mut Reader<'_>) -> Result<Head, Stop>
 pub fn read_foot(reader: &mut Reader<'_>) -> Result<Foot, Stop>
     ensures { Gives (λ x. (x, reader.new.rest.now)) result (foot_at reader.old.rest.now) }
 {
-    let surplus = amount_line(reader, b"surplus ")?;
-    let payments = amount_line(reader, b"payments ")?;
-    let gap = amount_line(reader, b"gap ")?;
-    word_line(reader, b"end")?;
+    let surplus = read_amount_line(reader, b"surplus ")?;
+    let payments = read_amount_line(reader, b"payments ")?;
+    let gap = read_amount_line(reader, b"gap ")?;
+    read_word_line(reader, b"end")?;
     Ok(Foot {
         surplus,
         payments,

@@ -6,10 +6,10 @@ ghost use Rattle.report_read.specs.LineForms.{value_line as value_form};
 ghost use Rattle.report_read.specs.Lines.{Gives, line, count_line as count_spec};
 ghost use Rattle.report_read.specs.Lines.{amount_line as amount_spec, list_line as list_spec};
 
-use crate::items::items_at;
+use crate::items::parse_spaced_items;
 use crate::stop::Stop;
 use crate::values::{Amount, Count, ValueForm, Valued};
-use crate::words::rest_behind;
+use crate::words::rest_after_word;
 use plain_lists::lists::ReservedList;
 use std::alloc::Global;
 
@@ -27,19 +27,19 @@ impl Drop for Reader<'_> {
 }
 
 #[tactic(auto, unfolding(crate::specs::LineForms::ended, crate::specs::LineForms::just))]
-fn word_in<'a>(word: &[u8], bytes: &'a [u8]) -> Option<&'a [u8]>
+fn parse_word_and_line_end<'a>(word: &[u8], bytes: &'a [u8]) -> Option<&'a [u8]>
     ensures { Finds (λ rest. (tt, rest.now)) result (plain_form word.now bytes.now) }
 {
-    let rest = rest_behind(word, bytes)?;
-    rest_behind(b"\n", rest)
+    let rest = rest_after_word(word, bytes)?;
+    rest_after_word(b"\n", rest)
 }
 
 /// A line that is a word.
-pub fn word_line(reader: &mut Reader<'_>, word: &[u8]) -> Result<(), Stop>
+pub fn read_word_line(reader: &mut Reader<'_>, word: &[u8]) -> Result<(), Stop>
     ensures { Gives (λ x. (x, reader.new.rest.now)) result
         (line (plain_form word.now) reader.old.rest.now) }
 {
-    match word_in(word, reader.rest) {
+    match parse_word_and_line_end(word, reader.rest) {
         Some(rest) => {
             reader.rest = rest;
             Ok(())
@@ -51,20 +51,28 @@ pub fn word_line(reader: &mut Reader<'_>, word: &[u8]) -> Result<(), Stop>
 }
 
 #[tactic(auto, unfolding(crate::specs::LineForms::ended, crate::specs::LineForms::after))]
-fn value_in<'a, F: ValueForm>(word: &[u8], form: F, bytes: &'a [u8]) -> Option<(F::Value, &'a [u8])>
+fn parse_word_and_value<'a, F: ValueForm>(
+    word: &[u8],
+    form: F,
+    bytes: &'a [u8],
+) -> Option<(F::Value, &'a [u8])>
     ensures { Finds (λ x. (x.0, x.1.now)) result (word_form word.now (F.found form) bytes.now) }
 {
-    let rest = rest_behind(word, bytes)?;
+    let rest = rest_after_word(word, bytes)?;
     let (value, rest) = form.at(rest)?;
-    let rest = rest_behind(b"\n", rest)?;
+    let rest = rest_after_word(b"\n", rest)?;
     Some((value, rest))
 }
 
-fn form_line<F: ValueForm>(reader: &mut Reader<'_>, word: &[u8], form: F) -> Result<F::Value, Stop>
+fn read_word_and_value_line<F: ValueForm>(
+    reader: &mut Reader<'_>,
+    word: &[u8],
+    form: F,
+) -> Result<F::Value, Stop>
     ensures { Gives (λ x. (x, reader.new.rest.now)) result
         (line (word_form word.now (F.found form)) reader.old.rest.now) }
 {
-    match value_in(word, form, reader.rest) {
+    match parse_word_and_value(word, form, reader.rest) {
         Some((value, rest)) => {
             reader.rest = rest;
             Ok(value)
@@ -76,23 +84,28 @@ fn form_line<F: ValueForm>(reader: &mut Reader<'_>, word: &[u8], form: F) -> Res
 }
 
 /// A word and a number from `least` to `most`.
-pub fn count_line(reader: &mut Reader<'_>, word: &[u8], least: u32, most: u32) -> Result<u32, Stop>
+pub fn read_count_line(
+    reader: &mut Reader<'_>,
+    word: &[u8],
+    least: u32,
+    most: u32,
+) -> Result<u32, Stop>
     ensures { Gives (λ x. (x, reader.new.rest.now)) result
         (count_spec word.now least most reader.old.rest.now) }
 {
-    form_line(reader, word, Count { least, most })
+    read_word_and_value_line(reader, word, Count { least, most })
 }
 
 /// A word and an amount of money.
-pub fn amount_line(reader: &mut Reader<'_>, word: &[u8]) -> Result<i128, Stop>
+pub fn read_amount_line(reader: &mut Reader<'_>, word: &[u8]) -> Result<i128, Stop>
     ensures { Gives (λ x. (x, reader.new.rest.now)) result
         (amount_spec word.now reader.old.rest.now) }
 {
-    form_line(reader, word, Amount)
+    read_word_and_value_line(reader, word, Amount)
 }
 
 /// A word, the number of a proposal from `least` to `most`, and its value in money.
-pub fn value_line(
+pub fn read_proposal_value_line(
     reader: &mut Reader<'_>,
     word: &[u8],
     least: u32,
@@ -101,11 +114,11 @@ pub fn value_line(
     ensures { Gives (λ x. (x, reader.new.rest.now)) result
         (line (value_form word.now least most) reader.old.rest.now) }
 {
-    form_line(reader, word, Valued { least, most })
+    read_word_and_value_line(reader, word, Valued { least, most })
 }
 
 #[tactic(auto, unfolding(crate::specs::LineForms::ended, crate::specs::LineForms::after))]
-fn list_in<'a, F: ValueForm>(
+fn parse_word_and_list<'a, F: ValueForm>(
     list: &mut ReservedList<F::Value>,
     word: &[u8],
     item: F,
@@ -117,13 +130,13 @@ fn list_in<'a, F: ValueForm>(
     ensures { Finds (λ rest. (list.new.items, rest.now)) result
         (word_form word.now (items_found (spaced (F.found item)) periods) bytes.now) }
 {
-    let rest = rest_behind(word, bytes)?;
-    let rest = items_at(list, item, periods, rest)?;
-    rest_behind(b"\n", rest)
+    let rest = rest_after_word(word, bytes)?;
+    let rest = parse_spaced_items(list, item, periods, rest)?;
+    rest_after_word(b"\n", rest)
 }
 
 /// A word and the items of all periods.
-pub fn list_line<F: ValueForm>(
+pub fn read_list_line<F: ValueForm>(
     alloc: Global,
     reader: &mut Reader<'_>,
     word: &[u8],
@@ -134,7 +147,7 @@ pub fn list_line<F: ValueForm>(
         (list_spec word.now (spaced (F.found item)) periods reader.old.rest.now) }
 {
     let mut list = ReservedList::make(alloc, periods)?;
-    match list_in(&mut list, word, item, periods, reader.rest) {
+    match parse_word_and_list(&mut list, word, item, periods, reader.rest) {
         Some(rest) => {
             reader.rest = rest;
             Ok(list)

@@ -6,9 +6,9 @@ ghost use Rattle.report_read.specs.Words.{backslashed_at as backslashed_spec};
 ghost use Rattle.report_read.specs.Words.{escaped_at as escaped_spec, closed_within};
 ghost use Rattle.report_read.specs.Words.{name_at as name_spec, FindsIfOk};
 
-use crate::words::rest_behind;
+use crate::words::rest_after_word;
 use plain_lists::lists::Name;
-use report_form::parts::is_plain;
+use report_form::parts::is_unescaped_byte;
 use std::alloc::{AllocError, Global};
 
 /// The value of a hexadecimal digit in lower case.
@@ -22,7 +22,7 @@ fn hex_value(byte: u8) -> Option<u8>
     }
 }
 
-fn two_digits(bytes: &[u8]) -> Option<(u8, &[u8])>
+fn parse_two_hex_digits(bytes: &[u8]) -> Option<(u8, &[u8])>
     ensures { Finds (λ x. (x.0, x.1.now)) result (two_spec bytes.now) }
 {
     match bytes {
@@ -40,48 +40,51 @@ fn two_digits(bytes: &[u8]) -> Option<(u8, &[u8])>
 }
 
 #[tactic(auto, unfolding(crate::specs::Words::control_at))]
-fn control_at(bytes: &[u8]) -> Option<(u8, &[u8])>
+fn parse_control_escape(bytes: &[u8]) -> Option<(u8, &[u8])>
     ensures { Finds (λ x. (x.0, x.1.now)) result (control_spec bytes.now) }
 {
-    let rest = rest_behind(b"00", bytes)?;
-    two_digits(rest)
+    let rest = rest_after_word(b"00", bytes)?;
+    parse_two_hex_digits(rest)
 }
 
 #[tactic(auto, unfolding(crate::specs::Words::backslashed_at))]
-fn backslashed_at(bytes: &[u8]) -> Option<(u8, &[u8])>
+fn parse_backslash_escape(bytes: &[u8]) -> Option<(u8, &[u8])>
     ensures { Finds (λ x. (x.0, x.1.now)) result (backslashed_spec bytes.now) }
 {
     match bytes {
         [byte, rest @ ..] if *byte == b'"' || *byte == b'\\' => Some((*byte, rest)),
-        [b'u', rest @ ..] => control_at(rest),
+        [b'u', rest @ ..] => parse_control_escape(rest),
         _ => None,
     }
 }
 
 /// A byte of a name, in the one form in which it is printed.
 #[tactic(auto, unfolding(crate::specs::Words::escaped_at))]
-fn escaped_at(bytes: &[u8]) -> Option<(u8, &[u8])>
+fn parse_name_byte(bytes: &[u8]) -> Option<(u8, &[u8])>
     ensures { Finds (λ x. (x.0, x.1.now)) result (escaped_spec bytes.now) }
 {
     match bytes {
-        [byte, rest @ ..] if is_plain(*byte) => Some((*byte, rest)),
-        [b'\\', rest @ ..] => backslashed_at(rest),
+        [byte, rest @ ..] if is_unescaped_byte(*byte) => Some((*byte, rest)),
+        [b'\\', rest @ ..] => parse_backslash_escape(rest),
         _ => None,
     }
 }
 
 /// The bytes of a name up to its closing quote.
-fn closed_at(alloc: Global, bytes: &[u8]) -> Result<Option<(Vec<u8>, &[u8])>, AllocError>
+fn parse_name_to_closing_quote(
+    alloc: Global,
+    bytes: &[u8],
+) -> Result<Option<(Vec<u8>, &[u8])>, AllocError>
     ensures { FindsIfOk (λ x. (x.0.items, x.1.now)) result
         (closed_within (length bytes.now) bytes.now) }
 {
     let mut name = Vec::new(alloc);
     let mut rest = bytes;
     for _ in 0..bytes.len() {
-        if let Some(after) = rest_behind(b"\"", rest) {
+        if let Some(after) = rest_after_word(b"\"", rest) {
             return Ok(Some((name, after)));
         }
-        let Some((byte, after)) = escaped_at(rest) else {
+        let Some((byte, after)) = parse_name_byte(rest) else {
             return Ok(None);
         };
         name.push(byte)?;
@@ -92,10 +95,10 @@ fn closed_at(alloc: Global, bytes: &[u8]) -> Result<Option<(Vec<u8>, &[u8])>, Al
 
 /// The name behind its opening quote.
 #[tactic(auto, unfolding(crate::specs::Words::name_at))]
-pub fn name_at(alloc: Global, bytes: &[u8]) -> Result<Option<(Name, &[u8])>, AllocError>
+pub fn parse_quoted_name(alloc: Global, bytes: &[u8]) -> Result<Option<(Name, &[u8])>, AllocError>
     ensures { FindsIfOk (λ x. (x.0.items, x.1.now)) result (name_spec bytes.now) }
 {
-    let Some((name, rest)) = closed_at(alloc, bytes)? else {
+    let Some((name, rest)) = parse_name_to_closing_quote(alloc, bytes)? else {
         return Ok(None);
     };
     match std::str::from_utf8(name.as_slice()) {

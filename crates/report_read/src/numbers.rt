@@ -13,7 +13,7 @@ pub const MOST: u128 = 170_141_183_460_469_231_731_687_303_715_884_105_728;
 /// A number above it has no room for another digit.
 const MOST_BEFORE_LAST: u128 = 17_014_118_346_046_923_173_168_730_371_588_410_572;
 
-fn number_and_rest(number: u128, rest: &[u8]) -> Option<(u128, &[u8])>
+fn number_within_limit_and_rest(number: u128, rest: &[u8]) -> Option<(u128, &[u8])>
     ensures { Finds (λ x. (x.0, x.1.now)) result (count_between 0 MOST (number, rest.now)) }
 {
     if MOST < number {
@@ -31,14 +31,14 @@ fn digits_from(first: u128, bytes: &[u8]) -> Option<(u128, &[u8])>
     let mut number = first;
     for (offset, byte) in bytes.iter().enumerate() {
         if !byte.is_ascii_digit() {
-            return number_and_rest(number, bytes_from(bytes, offset));
+            return number_within_limit_and_rest(number, bytes_from(bytes, offset));
         }
         if number > MOST_BEFORE_LAST {
             return None;
         }
         number = 10 * number + (*byte - b'0') as u128;
     }
-    number_and_rest(number, bytes_from(bytes, bytes.len()))
+    number_within_limit_and_rest(number, bytes_from(bytes, bytes.len()))
 }
 
 /// A number of at most `MOST`.
@@ -54,7 +54,7 @@ fn numeral_at(bytes: &[u8]) -> Option<(u128, &[u8])>
 }
 
 /// A number from `least` to `most`.
-pub fn count_at(bytes: &[u8], least: u32, most: u32) -> Option<(u32, &[u8])>
+pub fn parse_count_between(bytes: &[u8], least: u32, most: u32) -> Option<(u32, &[u8])>
     ensures { Finds (λ x. (x.0, x.1.now)) result (count_spec least most bytes.now) }
 {
     let (number, rest) = numeral_at(bytes)?;
@@ -65,7 +65,7 @@ pub fn count_at(bytes: &[u8], least: u32, most: u32) -> Option<(u32, &[u8])>
 }
 
 /// The number of that magnitude below 0.
-fn negative_number(magnitude: u128) -> i128
+fn negated_magnitude(magnitude: u128) -> i128
     requires least { 1 ≤ magnitude }
     requires most { magnitude ≤ MOST }
     ensures { result ≡ neg_ℤ (pos magnitude) }
@@ -73,17 +73,17 @@ fn negative_number(magnitude: u128) -> i128
     -((magnitude - 1) as i128) - 1
 }
 
-fn negative_at(bytes: &[u8]) -> Option<(i128, &[u8])>
+fn parse_negative_number(bytes: &[u8]) -> Option<(i128, &[u8])>
     ensures { Finds (λ x. (x.0, x.1.now)) result (amount_spec (45 ∷ bytes.now)) }
 {
     let (magnitude, rest) = numeral_at(bytes)?;
     if magnitude == 0 {
         return None;
     }
-    Some((negative_number(magnitude), rest))
+    Some((negated_magnitude(magnitude), rest))
 }
 
-fn positive_at(bytes: &[u8]) -> Option<(i128, &[u8])>
+fn parse_nonnegative_number(bytes: &[u8]) -> Option<(i128, &[u8])>
     requires { slice_index bytes.now 0 ≢ 45 }
     ensures { Finds (λ x. (x.0, x.1.now)) result (amount_spec bytes.now) }
 {
@@ -95,20 +95,20 @@ fn positive_at(bytes: &[u8]) -> Option<(i128, &[u8])>
 }
 
 /// A number of 128 bits.
-pub fn amount_at(bytes: &[u8]) -> Option<(i128, &[u8])>
+pub fn parse_signed_number(bytes: &[u8]) -> Option<(i128, &[u8])>
     ensures { Finds (λ x. (x.0, x.1.now)) result (amount_spec bytes.now) }
 {
     match bytes {
-        [b'-', rest @ ..] => negative_at(rest),
-        _ => positive_at(bytes),
+        [b'-', rest @ ..] => parse_negative_number(rest),
+        _ => parse_nonnegative_number(bytes),
     }
 }
 
 /// A number from `least` to `most`.
-pub fn number_at(bytes: &[u8], least: i64, most: i64) -> Option<(i64, &[u8])>
+pub fn parse_signed_number_between(bytes: &[u8], least: i64, most: i64) -> Option<(i64, &[u8])>
     ensures { Finds (λ x. (x.0, x.1.now)) result (integer_at least most bytes.now) }
 {
-    let (number, rest) = amount_at(bytes)?;
+    let (number, rest) = parse_signed_number(bytes)?;
     if number < (least as i128) || (most as i128) < number {
         return None;
     }

@@ -8,24 +8,24 @@ ghost use Rattle.report_read.specs.Faults.{IsFault, IfFault, line_feeds, Gives a
 ghost use Rattle.report_read.specs.Lines.{Gives, report_at, all_of};
 
 use crate::head::{read_foot, read_head};
-use crate::lines::{Reader, value_line};
+use crate::lines::{Reader, read_proposal_value_line};
 use crate::report::{Report, ReportError};
-use crate::rows::read_rows;
+use crate::rows::read_proposal_rows;
 use crate::stop::Stop;
 use crate::units::read_units;
 use std::alloc::Global;
 
 /// A report at the front of what is left.
 #[tactic(auto, unfolding(crate::specs::Lines::report_at, crate::specs::Plain::report_of))]
-fn report_in_front(alloc: Global, reader: &mut Reader<'_>) -> Result<Report, Stop>
+fn read_report_parts(alloc: Global, reader: &mut Reader<'_>) -> Result<Report, Stop>
     requires { length reader.old.rest.now ≤ MOST_BYTES }
     ensures exact { Gives (λ x. (report_of x, reader.new.rest.now)) result
         (report_at reader.old.rest.now) }
     ensures order { IfOk result (λ x. AreInOrder 0 (map told_of x.lines.items)) }
 {
     let head = read_head(reader)?;
-    let rows = read_rows(alloc, reader, head.periods, head.proposals)?;
-    let chosen = value_line(reader, b"chosen ", 0, u32::MAX)?;
+    let rows = read_proposal_rows(alloc, reader, head.periods, head.proposals)?;
+    let chosen = read_proposal_value_line(reader, b"chosen ", 0, u32::MAX)?;
     let lines = read_units(alloc, reader, head.periods, head.units)?;
     let foot = read_foot(reader)?;
     Ok(Report {
@@ -45,13 +45,13 @@ fn report_in_front(alloc: Global, reader: &mut Reader<'_>) -> Result<Report, Sto
 }
 
 #[tactic(auto, unfolding(crate::specs::Lines::all_of))]
-fn whole_report(alloc: Global, bytes: &[u8]) -> Result<Report, Stop>
+fn read_whole_report(alloc: Global, bytes: &[u8]) -> Result<Report, Stop>
     requires { length bytes.now ≤ MOST_BYTES }
     ensures exact { Gives report_of result (all_of bytes.now) }
     ensures order { IfOk result (λ r. AreInOrder 0 (map told_of r.lines.items)) }
 {
     let mut reader = Reader { rest: bytes };
-    let report = report_in_front(alloc, &mut reader)?;
+    let report = read_report_parts(alloc, &mut reader)?;
     if !reader.rest.is_empty() {
         return Err(Stop::Fault {
             left: reader.rest.len(),
@@ -61,7 +61,7 @@ fn whole_report(alloc: Global, bytes: &[u8]) -> Result<Report, Stop>
 }
 
 /// The number from 1 of the line that begins where so many bytes are left.
-fn line_number(bytes: &[u8], left: usize) -> u32
+fn line_number_with_bytes_left(bytes: &[u8], left: usize) -> u32
     requires few { length bytes.now ≤ MOST_BYTES }
     requires within { left ≤ length bytes.now }
     ensures { result ≡ suc (line_feeds (take (length bytes.now - left) bytes.now)) }
@@ -95,10 +95,10 @@ pub fn read_report(alloc: Global, bytes: &[u8]) -> Result<Report, ReportError>
     ensures only { (r : PlainReport) → IsReport r → bytes.now ≡ report_text r
         → GivesReport result r }
 {
-    match whole_report(alloc, bytes) {
+    match read_whole_report(alloc, bytes) {
         Ok(report) => Ok(report),
         Err(Stop::Fault { left }) => Err(ReportError::Fault {
-            line: line_number(bytes, left),
+            line: line_number_with_bytes_left(bytes, left),
         }),
         Err(Stop::Memory) => Err(ReportError::Memory),
     }

@@ -6,7 +6,7 @@ ghost use Rattle.uc_model.specs.declared.limits.TheConstants.{MOST_PERIODS};
 ghost use Rattle.report_read.specs.Lines.{Gives, row_at, rows_at};
 ghost use Rattle.report_read.specs.declared.rows.TheConstants.{LEAST_BYTES};
 
-use crate::lines::{Reader, list_line, value_line};
+use crate::lines::{Reader, read_list_line, read_proposal_value_line};
 use crate::report::RowList;
 use crate::stop::Stop;
 use crate::values::{Amount, Price};
@@ -30,17 +30,22 @@ const RESERVE_PRICE: Price = Price {
 
 /// The proposal of a number, over so many periods.
 #[tactic(auto, unfolding(crate::specs::Lines::row_at))]
-fn read_row(alloc: Global, reader: &mut Reader<'_>, periods: u32, number: u32) -> Result<Row, Stop>
+fn read_proposal_row(
+    alloc: Global,
+    reader: &mut Reader<'_>,
+    periods: u32,
+    number: u32,
+) -> Result<Row, Stop>
     requires some { 1 ≤ periods }
     requires limit { periods ≤ MOST_PERIODS }
     ensures { Gives (λ x. (proposal_of x, reader.new.rest.now)) result
         (row_at periods number reader.old.rest.now) }
 {
-    let valued = value_line(reader, b"proposal ", number, number)?;
-    let energy = list_line(alloc, reader, b"energy", ENERGY_PRICE, periods)?;
-    let reserve = list_line(alloc, reader, b"reserve", RESERVE_PRICE, periods)?;
-    let supplied = list_line(alloc, reader, b"supplied", Amount, periods)?;
-    let reserved = list_line(alloc, reader, b"reserved", Amount, periods)?;
+    let valued = read_proposal_value_line(reader, b"proposal ", number, number)?;
+    let energy = read_list_line(alloc, reader, b"energy", ENERGY_PRICE, periods)?;
+    let reserve = read_list_line(alloc, reader, b"reserve", RESERVE_PRICE, periods)?;
+    let supplied = read_list_line(alloc, reader, b"supplied", Amount, periods)?;
+    let reserved = read_list_line(alloc, reader, b"reserved", Amount, periods)?;
     Ok(Row {
         prices: Prices { energy, reserve },
         value: valued.1,
@@ -50,7 +55,7 @@ fn read_row(alloc: Global, reader: &mut Reader<'_>, periods: u32, number: u32) -
 }
 
 /// So many proposals, numbered from 1. There is room for no more of them than the bytes can hold.
-pub fn read_rows(
+pub fn read_proposal_rows(
     alloc: Global,
     reader: &mut Reader<'_>,
     periods: u32,
@@ -66,7 +71,7 @@ pub fn read_rows(
     let most = (reader.rest.len() / LEAST_BYTES) as u32;
     let mut rows = RowList::make(alloc, most.min(count))?;
     for place in 0..count {
-        let row = read_row(alloc, reader, periods, place + 1)?;
+        let row = read_proposal_row(alloc, reader, periods, place + 1)?;
         rows.push(row);
     }
     Ok(rows)

@@ -4,8 +4,8 @@ ghost use Rattle.report_read.specs.Words.{Found, Finds, count_at as count_spec, 
 ghost use Rattle.report_read.specs.Words.{integer_at};
 ghost use Rattle.report_read.specs.LineForms.{amount_at as amount_spec, after, both};
 
-use crate::numbers::{amount_at, count_at, number_at};
-use crate::words::rest_behind;
+use crate::numbers::{parse_count_between, parse_signed_number, parse_signed_number_between};
+use crate::words::rest_after_word;
 
 /// A form of values that a line may have.
 pub trait ValueForm: Copy + Drop {
@@ -33,7 +33,7 @@ impl ValueForm for Count {
     ghost found = { λ c. count_spec c.least c.most };
 
     fn at(self, bytes: &[u8]) -> Option<(u32, &[u8])> {
-        count_at(bytes, self.least, self.most)
+        parse_count_between(bytes, self.least, self.most)
     }
 }
 
@@ -47,7 +47,7 @@ impl ValueForm for Amount {
     ghost found = { λ _. amount_spec };
 
     fn at(self, bytes: &[u8]) -> Option<(i128, &[u8])> {
-        amount_at(bytes)
+        parse_signed_number(bytes)
     }
 }
 
@@ -64,7 +64,7 @@ impl ValueForm for Price {
     ghost found = { λ p. integer_at p.least p.most };
 
     fn at(self, bytes: &[u8]) -> Option<(i64, &[u8])> {
-        number_at(bytes, self.least, self.most)
+        parse_signed_number_between(bytes, self.least, self.most)
     }
 }
 
@@ -101,9 +101,9 @@ impl ValueForm for Valued {
 
     #[tactic(auto, unfolding(crate::specs::LineForms::both, crate::specs::LineForms::after))]
     fn at(self, bytes: &[u8]) -> Option<((u32, i128), &[u8])> {
-        let (number, rest) = count_at(bytes, self.least, self.most)?;
-        let rest = rest_behind(b" value ", rest)?;
-        let (value, rest) = amount_at(rest)?;
+        let (number, rest) = parse_count_between(bytes, self.least, self.most)?;
+        let rest = rest_after_word(b" value ", rest)?;
+        let (value, rest) = parse_signed_number(rest)?;
         Some(((number, value), rest))
     }
 }

@@ -2,7 +2,8 @@
 use Rattle.right_report.proofs.Common.{to_z, of_z, ◌≡◌, ℕ, ◌-◌, ◌<◌, ◌≤◌, ℤ, pos, ◌-ℤ◌, true, List, [], map, length}
 use Rattle.right_report.proofs.Common.{get_or, refl, sym, ap, ◌∙◌, subst, arith, ints, to_z-of_z, length-map}
 use Rattle.right_report.proofs.Common.{get_or-map, w128, FitsSigned, IsSetup, Content, IsLegalHistory, own_rows}
-use Rattle.right_report.proofs.Common.{has_finished, RowsAreWithin, IsRowWithin, FinishedHasRow, FinishedIsRun, Fits}
+use Rattle.right_report.proofs.Common.{has_finished, RowsOfHistoryAreWithinLimits, IsRowWithin, FinishedHasRow}
+use Rattle.right_report.proofs.Common.{FinishedHistoryIsWholeRun, Fits}
 use Rattle.right_report.proofs.Common.{Row, proposal_of, Proposal, int_at, chosen_of, value_of, no_prices, IsTold}
 use Rattle.uc_model.specs.BoundLaws.{PlanCostsAreWithin}
 use Rattle.plain_lists.proofs.SignedLaws.{IsWithin, fits_within}
@@ -10,7 +11,7 @@ use Rattle.right_report.proofs.Records.{chosen_is}
 
 -- ---- the chosen row
 
-pub most_rows : FinishedIsRun Fits → (c : Content) → IsSetup c.setup → IsLegalHistory c.setup c.events →
+pub most_rows : FinishedHistoryIsWholeRun Fits → (c : Content) → IsSetup c.setup → IsLegalHistory c.setup c.events →
     has_finished c ≡ true → length (own_rows c) ≤ 10000
 most_rows run c setup legal finished =
     let some = setup.market.some_unit in
@@ -53,7 +54,8 @@ pub record IsChosenRow (c : Content) (row : Row) : Type 0 where
   pub value_fits : FitsSigned w128 row.value
   pub gap_fits : FitsSigned w128 (c.setup.cost -ℤ row.value)
 
-pub chosen_row : FinishedHasRow → RowsAreWithin → PlanCostsAreWithin → (c : Content) (rows : List Row) (row : Row) →
+pub chosen_row : FinishedHasRow → RowsOfHistoryAreWithinLimits → PlanCostsAreWithin → (c : Content) (rows : List Row)
+    (row : Row) →
     IsSetup c.setup → IsLegalHistory c.setup c.events → has_finished c ≡ true → map proposal_of rows ≡ own_rows c →
     row ≡ get_or rows (chosen_of c - 1) row → IsChosenRow c row
 chosen_row has_row rows_within costs_within c rows row setup legal finished e is =
@@ -87,7 +89,7 @@ pub record IsChoiceTold (c : Content) (cost : ℤ) (row : Row) : Type 0 where
   pub gap : to_z w128 (of_z w128 (to_z w128 (of_z w128 cost) -ℤ to_z w128 (of_z w128 row.value))) ≡ c.setup.cost
       -ℤ value_of c
 
-pub choice_told : FinishedHasRow → RowsAreWithin → PlanCostsAreWithin →
+pub choice_told : FinishedHasRow → RowsOfHistoryAreWithinLimits → PlanCostsAreWithin →
     (c : Content) (rows : List Row) (row : Row) (chosen : ℕ) (cost : ℤ) → IsSetup c.setup →
     IsLegalHistory c.setup c.events → has_finished c ≡ true → map proposal_of rows ≡ own_rows c →
     chosen ≡ chosen_of c → row ≡ get_or rows (chosen - 1) row → cost ≡ c.setup.cost → FitsSigned w128 cost →
@@ -113,7 +115,7 @@ choice_told has_row rows_within costs_within c rows row chosen cost setup legal 
 no_row : Proposal
 no_row = record { prices = no_prices; value = pos 0; supply = []; reserve = [] }
 
-pub value_told : RowsAreWithin → (c : Content) (chosen : ℕ) → IsSetup c.setup →
+pub value_told : RowsOfHistoryAreWithinLimits → (c : Content) (chosen : ℕ) → IsSetup c.setup →
     IsLegalHistory c.setup c.events → chosen ≡ chosen_of c → 1 ≤ chosen →
     chosen ≤ length (own_rows c) → IsTold (value_of c)
 value_told within c chosen setup legal is first last =

@@ -24,15 +24,17 @@ pub use Rattle.std.specs.declared.cmp.Ordering.{Ordering}
 pub use Rattle.std.specs.declared.cmp.Ordering.TheVariants.{Less, Equal, Greater}
 pub use Rattle.board_core.specs.Setups.{IsSetup}
 pub use Rattle.board_store.specs.Board.{Content, IsLegalHistory, Answer, rules_of, row_of, schedules_in}
-pub use Rattle.board_store.specs.Bounds.{RowsAreWithin, IsRowWithin}
+pub use Rattle.board_store.specs.Bounds.{RowsOfHistoryAreWithinLimits, IsRowWithin}
 pub use Rattle.board_store.specs.Calls.{own_rows, has_finished}
-pub use Rattle.board_store.specs.Laws.{FinishedIsRun, FinishedHasRow, AnswersFit, RowsAreMade}
+pub use Rattle.board_store.specs.Laws.{FinishedHistoryIsWholeRun, FinishedHasRow, AnswersOfHistoryFitTheirTasks}
+pub use Rattle.board_store.specs.Laws.{EachRowHasAnswerOfEachUnit}
 pub use Rattle.board_store.specs.Rounds.{posts, answer_at, answers, prices_at}
 pub use Rattle.right_report.specs.Told.{IsTold}
 pub use Rattle.right_report.specs.Laws.{OneRun, RightReportHasForm, OneIsChosen, OneRightReport}
 pub use Rattle.right_report.specs.Laws.{ReportPaymentsMakeUpTheGap}
 pub use Rattle.right_report.specs.RecordReport.{lines_from, chosen_of, value_of, line_of, IsSettledRecord}
-pub use Rattle.right_report.specs.RecordReport.{RecordReportIsRight, SettlementsAreOfAllUnits, AnswersAreTops}
+pub use Rattle.right_report.specs.RecordReport.{ReportOfFinishedBoardIsRight, SettlementHasEntryForEachUnit}
+pub use Rattle.right_report.specs.RecordReport.{AnswersToRowEarnTheMost}
 pub use Rattle.uc_model.specs.Data.{thermal_names, renewable_names, bid_names, AnyUnit, PriceLists, Schedule, Market}
 pub use Rattle.uc_model.specs.Data.{units, ThermalUnit, RenewableUnit, BidUnit, Thermal, Flat, Bid, NamedThermalUnit}
 pub use Rattle.uc_model.specs.Data.{NamedRenewableUnit, NamedBidUnit, unit_count}

@@ -3,14 +3,15 @@ use Rattle.right_report.proofs.Common.{◌≡◌, ℕ, suc, ◌+◌, ◌-◌, �
 use Rattle.right_report.proofs.Common.{length, slice_get, refl, sym, ap, ◌∙◌, subst, arith, length-append, length-map}
 use Rattle.right_report.proofs.Common.{get_or-map, slice_get_within, get_or_from_slice_get, AllZip, range_with_len}
 use Rattle.right_report.proofs.Common.{option_map_or, Answer, Content, rules_of, row_of, schedules_in, IsLegalHistory}
-use Rattle.right_report.proofs.Common.{own_rows, posts, answer_at, answers, prices_at, AnswersFit, RowsAreMade}
-use Rattle.right_report.proofs.Common.{FinishedHasRow, FinishedIsRun, AnyUnit, Market, NamedThermalUnit}
+use Rattle.right_report.proofs.Common.{own_rows, posts, answer_at, answers, prices_at, AnswersOfHistoryFitTheirTasks}
+use Rattle.right_report.proofs.Common.{EachRowHasAnswerOfEachUnit}
+use Rattle.right_report.proofs.Common.{FinishedHasRow, FinishedHistoryIsWholeRun, AnyUnit, Market, NamedThermalUnit}
 use Rattle.right_report.proofs.Common.{NamedRenewableUnit, NamedBidUnit, PriceLists, Schedule, units, unit_count}
 use Rattle.right_report.proofs.Common.{earnings, IsTop, Proposal, Fits, HasTotals, IsRun, IsFeasible, int_at, IsSettled}
 use Rattle.right_report.proofs.Common.{length_same, length-zip_with, Settlement, OneIsChosen, UnitLine, unit_lines}
 use Rattle.right_report.proofs.Common.{HasNames, thermal_names, renewable_names, bid_names, line_of, lines_from}
-use Rattle.right_report.proofs.Common.{chosen_of, report_of, IsSettledRecord, RecordReportIsRight}
-use Rattle.right_report.proofs.Common.{SettlementsAreOfAllUnits, AnswersAreTops}
+use Rattle.right_report.proofs.Common.{chosen_of, report_of, IsSettledRecord, ReportOfFinishedBoardIsRight}
+use Rattle.right_report.proofs.Common.{SettlementHasEntryForEachUnit, AnswersToRowEarnTheMost}
 use Rattle.std.proofs.lemmas.Simd.{map-map}
 use Rattle.right_report.proofs.ChosenRow.{one_is_chosen}
 use Rattle.right_report.proofs.UnitLines.{units_length, lines_append, lines_map, lines_names, lines_zip, zip_each}
@@ -31,7 +32,7 @@ pub record IsAnswerAt (u : AnyUnit) (π : PriceLists) (a : Answer) : Type 0 wher
   pub top : IsTop u π a.earned
 
 -- the lists of a settlement have a number for each unit
-pub settled_lengths : SettlementsAreOfAllUnits
+pub settled_lengths : SettlementHasEntryForEachUnit
 settled_lengths m plan π scheduled payments surplus sum f h =
     let us = units_length m in
     let plans = length_same (λ u s. IsFeasible u m.periods s) (units m) plan f.feasible in
@@ -40,8 +41,8 @@ settled_lengths m plan π scheduled payments surplus sum f h =
     let b = ap length h.payments_are ∙ length-zip_with (λ e s. e -ℤ s) h.tops scheduled (omega (arith, tops, a)) in
     (omega (arith, a, us), omega (arith, b, tops, us))
 
-module _ (answered : AnswersFit) (made : RowsAreMade) (has_row : FinishedHasRow)
-    (finished_run : FinishedIsRun Fits) where
+module _ (answered : AnswersOfHistoryFitTheirTasks) (made : EachRowHasAnswerOfEachUnit) (has_row : FinishedHasRow)
+    (finished_run : FinishedHistoryIsWholeRun Fits) where
   module _ (c : Content) (k : ℕ) (row : Proposal) (ahead : 1 ≤ c.setup.ahead)
       (is : slice_get (own_rows c) k ≡ Some row) where
     abbrev kept : ℕ → Answer
@@ -87,7 +88,7 @@ module _ (answered : AnswersFit) (made : RowsAreMade) (has_row : FinishedHasRow)
         (subst (λ (v : AnyUnit). IsAnswerAt v (prices_at g p (suc k)) post.0.1) same found))
 
   -- what the units earn at best at the prices of a row, as the answers tell it
-  pub tops_at : AnswersAreTops
+  pub tops_at : AnswersToRowEarnTheMost
   tops_at c k row ahead legal is earned count each =
       zip_each (λ u e. IsTop u row.prices e) (units c.setup.market) earned (units_length c.setup.market ∙ sym count)
       (λ u x there.
@@ -213,7 +214,7 @@ module _ (answered : AnswersFit) (made : RowsAreMade) (has_row : FinishedHasRow)
       let same = all_lines c s ∙ ap (λ (n : ℕ). lines_from (line_of c s n) 0 (all_names c.setup.market)) index.2 in
       subst (AreLines c s row) (sym same) (are_lines c s row index.0 h is)
 
-  pub record_is_right : RecordReportIsRight
+  pub record_is_right : ReportOfFinishedBoardIsRight
   unfolding report_of
   record_is_right c s row h =
       let lines = lines_are c s row h in

@@ -2,11 +2,14 @@
 use Rattle.right_report.proofs.Common.{◌≡◌, ℕ, ◌-◌, ◌<◌, ◌≤◌, ℤ, pos, ◌-ℤ◌, List, map, length, get_or, slice_get, Some}
 use Rattle.right_report.proofs.Common.{refl, sym, ap, ◌∙◌, subst, arith, length-map, get_or-map, same_Some}
 use Rattle.right_report.proofs.Common.{slice_get-map, slice_get-get_or, slice_get_within, get_or_from_slice_get}
-use Rattle.right_report.proofs.Common.{option_map, IsSetup, Content, IsLegalHistory, RowsAreWithin, own_rows}
-use Rattle.right_report.proofs.Common.{FinishedIsRun, PriceLists, OneLeast, PaymentsMakeUpTheGap, proposal_of, Proposal}
+use Rattle.right_report.proofs.Common.{option_map, IsSetup, Content, IsLegalHistory, RowsOfHistoryAreWithinLimits}
+use Rattle.right_report.proofs.Common.{own_rows}
+use Rattle.right_report.proofs.Common.{FinishedHistoryIsWholeRun, PriceLists, OneLeast, PaymentsMakeUpTheGap}
+use Rattle.right_report.proofs.Common.{proposal_of, Proposal}
 use Rattle.right_report.proofs.Common.{chosen_number, IsRun, Fits, total, plan_cost, worth_of_demand, IsDualValue}
 use Rattle.right_report.proofs.Common.{IsSettled, Row, chosen_of, value_of}
-use Rattle.right_report.specs.RightSide.{OneRightSide, SidePaymentsMakeUpTheGap, SettledSidesAreRight}
+use Rattle.right_report.specs.RightSide.{OneRightSide, PaymentsOfFixedReportSideMakeUpTheGap}
+use Rattle.right_report.specs.RightSide.{SettledSidesOfFixedReportAreRight}
 use Rattle.right_report.proofs.OneReport.{settled_same}
 use Rattle.right_report.proofs.OneRun.{one_run}
 
@@ -31,7 +34,8 @@ chosen_value c row is =
     ∙ ap (λ (r : Proposal). r.value) (get_or_from_slice_get (own_rows c) k row row is)
 
 -- its prices are over the periods of the case
-chosen_is_long : RowsAreWithin → (c : Content) (row : Proposal) → IsSetup c.setup → IsLegalHistory c.setup c.events →
+chosen_is_long : RowsOfHistoryAreWithinLimits → (c : Content) (row : Proposal) → IsSetup c.setup → IsLegalHistory
+    c.setup c.events →
     slice_get (own_rows c) (chosen_of c - 1) ≡ Some row →
     length row.prices.energy ≡ c.setup.market.periods
 chosen_is_long within c row setup legal is =
@@ -46,7 +50,8 @@ pub record IsChosenAt (c : Content) (row : Row) : Type 0 where
   pub value : value_of c ≡ row.value
   pub horizon : length row.prices.energy.items ≡ c.setup.market.periods
 
-pub chosen_row_at : RowsAreWithin → (c : Content) (rows : List Row) (chosen : ℕ) (row : Row) → IsSetup c.setup →
+pub chosen_row_at : RowsOfHistoryAreWithinLimits → (c : Content) (rows : List Row) (chosen : ℕ) (row : Row) → IsSetup
+    c.setup →
     IsLegalHistory c.setup c.events → map proposal_of rows ≡ own_rows c → chosen ≡ chosen_of c →
     1 ≤ chosen → chosen ≤ length (own_rows c) → row ≡ get_or rows (chosen - 1) row → IsChosenAt c row
 chosen_row_at within c rows chosen row setup legal same at first last is =
@@ -61,7 +66,7 @@ chosen_row_at within c rows chosen row setup legal same at first last is =
 
 -- ---- right sides
 
-pub sides_are_right : FinishedIsRun Fits → SettledSidesAreRight
+pub sides_are_right : FinishedHistoryIsWholeRun Fits → SettledSidesOfFixedReportAreRight
 sides_are_right finished_run given c s setup legal finished choice settled =
     let some = setup.market.some_unit in
     let run = finished_run c.setup c.events setup.some_ahead (omega (arith, some)) legal finished in
@@ -101,7 +106,7 @@ one_side one_least given ran plan budget ahead s other h i =
       total = money.sum_same j;
     }
 
-pub made_up : PaymentsMakeUpTheGap → SidePaymentsMakeUpTheGap
+pub made_up : PaymentsMakeUpTheGap → PaymentsOfFixedReportSideMakeUpTheGap
 made_up law given ran plan budget ahead s feasible h =
     let dual : ℤ = worth_of_demand given s.prices -ℤ total h.settled.tops in
     let is : IsDualValue given s.prices dual = record { tops = h.settled.tops; best = h.settled.best; is = refl } in

@@ -83,22 +83,22 @@ pub record IsSettledRecord (c : Content) (s : Settlement) (row : Proposal) : Typ
   pub settled : IsSettled c.setup.market c.setup.plan row.prices s.scheduled.items s.payments.items
       s.surplus s.total
 
-abbrev pub RecordReportIsRight : Type 0
-RecordReportIsRight =
+abbrev pub ReportOfFinishedBoardIsRight : Type 0
+ReportOfFinishedBoardIsRight =
     (c : Content) (s : Settlement) (row : Proposal) → IsSettledRecord c s row →
     IsRightReport c.setup.market c.setup.plan c.setup.budget c.setup.ahead (report_of c s)
 
 -- the settlement of a feasible plan has one number for each unit
-abbrev pub SettlementsAreOfAllUnits : Type 0
-SettlementsAreOfAllUnits =
+abbrev pub SettlementHasEntryForEachUnit : Type 0
+SettlementHasEntryForEachUnit =
     (m : Market) (plan : List Schedule) (π : PriceLists) (scheduled payments : List ℤ)
     (surplus sum : ℤ) →
     IsFeasiblePlan m plan → IsSettled m plan π scheduled payments surplus sum →
     (length scheduled ≡ unit_count m) × (length payments ≡ unit_count m)
 
 -- what the answers to a row earn is what the units earn at best at its prices
-abbrev pub AnswersAreTops : Type 0
-AnswersAreTops =
+abbrev pub AnswersToRowEarnTheMost : Type 0
+AnswersToRowEarnTheMost =
     (c : Content) (k : ℕ) (row : Proposal) → 1 ≤ c.setup.ahead → IsLegalHistory c.setup c.events →
     slice_get (own_rows c) k ≡ Some row → (earned : List ℤ) →
     length earned ≡ unit_count c.setup.market →

@@ -67,8 +67,8 @@ IsMadeUp given plan s =
     (dual : ℤ) × IsDualValue given s.prices dual
     × (s.total +ℤ s.surplus ≡ plan_cost given plan -ℤ dual)
 
-abbrev pub SidePaymentsMakeUpTheGap : Type 0
-SidePaymentsMakeUpTheGap =
+abbrev pub PaymentsOfFixedReportSideMakeUpTheGap : Type 0
+PaymentsOfFixedReportSideMakeUpTheGap =
     (given ran : Market) (plan : List Schedule) (budget ahead : ℕ) (s : ToldSide) →
     IsFeasiblePlan given plan → IsRightSide given ran plan budget ahead s → IsMadeUp given plan s
 
@@ -84,8 +84,8 @@ pub record TellsChoice (c : Content) (s : Side) : Type 0 where
   pub prices : prices_of s.prices ≡ row.prices
 
 -- it is right with the settlement of the record's schedule, for the case as given, at its prices
-abbrev pub SettledSidesAreRight : Type 0
-SettledSidesAreRight =
+abbrev pub SettledSidesOfFixedReportAreRight : Type 0
+SettledSidesOfFixedReportAreRight =
     (given : Market) (c : Content) (s : Side) → IsSetup c.setup →
     IsLegalHistory c.setup c.events → has_finished c ≡ true → TellsChoice c s →
     IsSettled given c.setup.plan (prices_of s.prices) s.settlement.scheduled.items

@@ -6,7 +6,9 @@ ghost use Rattle.right_report.specs.RecordReport.{chosen_of, value_of};
 ghost use Rattle.right_report.specs.Told.{IsTold};
 
 use board_core::Closed;
-use board_store::laws::{finished_has_row, finished_is_run, rows_are_within};
+use board_store::laws::{
+    finished_has_row, finished_history_is_whole_run, rows_of_history_are_within_limits,
+};
 use uc_model::laws::plan_costs_are_within;
 
 /// How many proposals a run has, the number from 1 of the chosen one, its dual value in money, and
@@ -25,7 +27,7 @@ pub struct Choice {
 
 /// What the record of a finished board chooses: the first proposal with the greatest dual value,
 /// which is at most 10^35 in magnitude. Takes no memory.
-pub fn choice_of_record(closed: &Closed) -> Choice
+pub fn chosen_proposal_of_finished_board(closed: &Closed) -> Choice
     requires { has_finished closed.now ≡ true }
     ensures proposals { result.proposals ≡ length (own_rows closed.now) }
     ensures most { result.proposals ≤ MOST_PROPOSALS }
@@ -37,8 +39,8 @@ pub fn choice_of_record(closed: &Closed) -> Choice
     ensures gap { result.gap ≡ closed.now.setup.cost -ℤ value_of closed.now }
 {
     finished_has_row();
-    finished_is_run();
-    rows_are_within();
+    finished_history_is_whole_run();
+    rows_of_history_are_within_limits();
     plan_costs_are_within();
     let rows = closed.rows();
     let chosen = closed.chosen();

@@ -3,13 +3,16 @@ ghost use Rattle.right_report.specs.Laws.{RightReportHasForm, OneIsChosen, OneRu
 ghost use Rattle.right_report.specs.Laws.{OneRightReport, ReportPaymentsMakeUpTheGap};
 ghost use Rattle.right_report.specs.Existence.{BestResponsesExist, DualValuesExist, RunsExist};
 ghost use Rattle.right_report.specs.Existence.{RightReportsExist};
-ghost use Rattle.right_report.specs.RecordReport.{RecordReportIsRight, SettlementsAreOfAllUnits};
-ghost use Rattle.right_report.specs.RecordReport.{AnswersAreTops};
-ghost use Rattle.right_report.specs.RightSide.{OneRightSide, SidePaymentsMakeUpTheGap};
-ghost use Rattle.right_report.specs.RightSide.{SettledSidesAreRight};
+ghost use Rattle.right_report.specs.RecordReport.{ReportOfFinishedBoardIsRight, SettlementHasEntryForEachUnit};
+ghost use Rattle.right_report.specs.RecordReport.{AnswersToRowEarnTheMost};
+ghost use Rattle.right_report.specs.RightSide.{OneRightSide, PaymentsOfFixedReportSideMakeUpTheGap};
+ghost use Rattle.right_report.specs.RightSide.{SettledSidesOfFixedReportAreRight};
 
-use board_store::laws::{answers_fit, finished_has_row, finished_is_run, rows_are_made};
-use uc_model::laws::{one_schedule_is_least, payments_make_up_the_gap};
+use board_store::laws::{
+    answers_of_history_fit_their_tasks, each_row_has_answer_of_each_unit, finished_has_row,
+    finished_history_is_whole_run,
+};
+use uc_model::laws::{least_best_schedule_is_unique, payments_make_up_the_gap};
 
 /// A right report is such a report as its text determines, so no two have one text.
 pub fn right_report_has_form()
@@ -18,29 +21,29 @@ pub fn right_report_has_form()
 
 /// The report of a finished record is right where the settlement is that of the plan at the prices
 /// of the chosen row.
-pub fn record_report_is_right()
-    ensures { RecordReportIsRight }
+pub fn report_of_finished_board_is_right()
+    ensures { ReportOfFinishedBoardIsRight }
 {
-    answers_fit();
-    rows_are_made();
+    answers_of_history_fit_their_tasks();
+    each_row_has_answer_of_each_unit();
     finished_has_row();
-    finished_is_run();
+    finished_history_is_whole_run();
 }
 
 /// The settlement of a feasible plan has one number for each unit and bid.
-pub fn settlements_are_of_all_units()
-    ensures { SettlementsAreOfAllUnits }
+pub fn settlement_has_entry_for_each_unit()
+    ensures { SettlementHasEntryForEachUnit }
 {}
 
 /// What the answers to a row of a legal history earn is what the units earn at best at that row's
 /// prices.
-pub fn answers_are_tops()
-    ensures { AnswersAreTops }
+pub fn answers_to_row_earn_the_most()
+    ensures { AnswersToRowEarnTheMost }
 {
-    answers_fit();
-    rows_are_made();
+    answers_of_history_fit_their_tasks();
+    each_row_has_answer_of_each_unit();
     finished_has_row();
-    finished_is_run();
+    finished_history_is_whole_run();
 }
 
 /// Where there is a row, one is chosen.
@@ -51,10 +54,10 @@ pub fn one_row_is_chosen()
 /// At most one list of rows is the run of a case with a given cost, budget and number of proposals
 /// ahead: each row follows from the rows before it, and the budget and the price rule say where
 /// they end.
-pub fn one_list_is_the_run()
+pub fn rows_of_run_are_unique()
     ensures { OneRun }
 {
-    one_schedule_is_least();
+    least_best_schedule_is_unique();
 }
 
 /// At most one report of a case and a plan is right for a given budget and number of proposals
@@ -62,7 +65,7 @@ pub fn one_list_is_the_run()
 pub fn one_report_is_right()
     ensures { OneRightReport }
 {
-    one_schedule_is_least();
+    least_best_schedule_is_unique();
 }
 
 /// In a right report of a feasible plan the payments and the surplus sum to the cost less the
@@ -75,30 +78,30 @@ pub fn report_payments_make_up_the_gap()
 
 /// What a finished record chose is a right side of `hull fixed` where the settlement is that of the
 /// record's schedule, for the case as given, at the chosen prices.
-pub fn settled_sides_are_right()
-    ensures { SettledSidesAreRight }
+pub fn settled_sides_of_fixed_report_are_right()
+    ensures { SettledSidesOfFixedReportAreRight }
 {
-    finished_is_run();
+    finished_history_is_whole_run();
 }
 
 /// At most one side of `hull fixed` is right for a case as given, a case that is run, a schedule, a
 /// budget and a number of proposals ahead.
-pub fn one_side_is_right()
+pub fn right_side_of_fixed_report_is_unique()
     ensures { OneRightSide }
 {
-    one_schedule_is_least();
+    least_best_schedule_is_unique();
 }
 
 /// On a right side of a feasible schedule the payments and the surplus sum to the cost less the
 /// dual value of the case as given at the side's prices.
-pub fn side_payments_make_up_the_gap()
-    ensures { SidePaymentsMakeUpTheGap }
+pub fn payments_of_fixed_report_side_make_up_the_gap()
+    ensures { PaymentsOfFixedReportSideMakeUpTheGap }
 {
     payments_make_up_the_gap();
 }
 
 /// Where a unit has a feasible schedule over the periods of some prices, it has a least best
-/// response to these prices, and by `uc_model::laws::one_schedule_is_least` just one.
+/// response to these prices, and by `uc_model::laws::least_best_schedule_is_unique` just one.
 pub fn best_responses_exist()
     ensures { BestResponsesExist }
 {}

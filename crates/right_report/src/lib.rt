@@ -8,5 +8,5 @@ mod choice;
 pub mod laws;
 mod side;
 
-pub use choice::{Choice, choice_of_record};
-pub use side::{Side, chosen_side};
+pub use choice::{Choice, chosen_proposal_of_finished_board};
+pub use side::{Side, fixed_report_side_of_finished_board};

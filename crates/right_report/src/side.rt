@@ -4,9 +4,9 @@ ghost use Rattle.board_store.specs.Calls.{has_finished};
 ghost use Rattle.uc_model.specs.PlainUnits.{prices_of};
 ghost use Rattle.right_report.specs.RightSide.{TellsChoice};
 
-use crate::choice::choice_of_record;
+use crate::choice::chosen_proposal_of_finished_board;
 use board_core::Closed;
-use board_store::laws::rows_are_within;
+use board_store::laws::rows_of_history_are_within_limits;
 use plain_lists::lists::copy_list;
 use price_settle::Settlement;
 use uc_model::units::Prices;
@@ -51,15 +51,19 @@ fn copy_prices(from: &Prices, into: &mut Prices)
 
 /// The side of a finished record: what it chose, with the chosen prices in `room`, which is over
 /// the record's periods, and the settlement as it is given. Takes no memory.
-pub fn chosen_side(closed: &Closed, room: Prices, settlement: Settlement) -> Side
+pub fn fixed_report_side_of_finished_board(
+    closed: &Closed,
+    room: Prices,
+    settlement: Settlement,
+) -> Side
     requires finished { has_finished closed.now ≡ true }
     requires horizon { length (prices_of room).energy ≡ closed.now.setup.market.periods }
     ensures choice { TellsChoice closed.now result }
     ensures horizon { length (prices_of result.prices).energy ≡ closed.now.setup.market.periods }
     ensures settlement { result.settlement ≡ settlement }
 {
-    rows_are_within();
-    let choice = choice_of_record(closed);
+    rows_of_history_are_within_limits();
+    let choice = chosen_proposal_of_finished_board(closed);
     let row = &closed.rows()[choice.chosen as usize - 1];
     let mut prices = room;
     copy_prices(&row.prices, &mut prices);

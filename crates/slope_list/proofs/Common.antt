@@ -20,9 +20,11 @@ pub use Rattle.slope_list.specs.Turn.{IsTurn, IsFirst, IsLast, IsBottom}
 pub use Rattle.slope_list.specs.declared.step.Made.{Made}
 pub use Rattle.std.specs.Option.{option_map}
 pub use Rattle.slope_list.specs.Curve.{curve_value, reserve_term, rise_at, end_of, IsLimitedCurve}
-pub use Rattle.slope_list.specs.ShapeLaws.{ConvexityIsOfPlaces, StepKeepsConvexity, PointIsConvex, CopyIsConvex}
+pub use Rattle.slope_list.specs.ShapeLaws.{ConvexityDependsOnValuesAlone, StepKeepsConvexity, PointIsConvex}
+pub use Rattle.slope_list.specs.ShapeLaws.{CopyIsConvex}
 pub use Rattle.slope_list.specs.ShapeLaws.{LineKeepsConvexity, ReserveKeepsConvexity, WindowKeepsConvexity}
-pub use Rattle.slope_list.specs.ShapeLaws.{CurveKeepsConvexity, CurvePlacesAreLimited, CurvesHaveValues, PointIsExact}
+pub use Rattle.slope_list.specs.ShapeLaws.{CurveKeepsConvexity, CurvePowersAreWithinLimits, CurveHasValueAtEachPower}
+pub use Rattle.slope_list.specs.ShapeLaws.{PointIsExact}
 pub use Rattle.slope_list.specs.ShapeLaws.{SumIsExact, CurveSumIsExact, WindowIsExact, SumIsOfValues}
 pub use Rattle.slope_list.specs.ShapeLaws.{CurveSumIsOfValues, WindowIsOfValues, PointIsWithinLimits}
 pub use Rattle.slope_list.specs.ShapeLaws.{CopyIsWithinLimits, SumIsWithinLimits, CurveSumIsWithinLimits}
@@ -34,12 +36,12 @@ pub use Rattle.slope_list.specs.Window.{paid, nearest, moved, runs_from, one_bef
 pub use Rattle.slope_list.specs.Cursors.{AreWithin, IsPlaced, IsValley}
 pub use Rattle.slope_list.specs.Kink.{kinked, AreSmall, AreGentle, bend_of, IsLowered, IsGentle, IsSteep, parts_from}
 pub use Rattle.slope_list.specs.Runs.{IsNear, IsRun}
-pub use Rattle.slope_list.specs.Way.{IsFurther}
+pub use Rattle.slope_list.specs.StepProgress.{IsFurther}
 pub use Rattle.slope_list.specs.declared.draw.Pen.{Pen}
 pub use Rattle.slope_list.specs.declared.cursor.Cursor.{Cursor}
 pub use Rattle.slope_list.specs.declared.piece.Piece.{Piece}
 pub use Rattle.slope_list.specs.declared.piece.Start.{Start}
-pub use Rattle.slope_list.specs.declared.way.Way.{Way}
+pub use Rattle.slope_list.specs.declared.progress.StepProgress.{StepProgress}
 pub use Rattle.slope_list.specs.declared.run.Run.{Run}
 pub use Rattle.slope_list.specs.declared.window.Window.{Window}
 pub use Rattle.plain_lists.specs.Ranges.{IsFrom}

@@ -2,7 +2,8 @@
 use Rattle.slope_list.proofs.Common.{◌≡◌, ℕ, suc, ◌<◌, List, [], ◌∷◌, length, get_or, Option, Some, None, refl, sym, ap}
 use Rattle.slope_list.proofs.Common.{◌∙◌, arith, ℤ, pos, ◌+ℤ◌, ◌-ℤ◌, ◌*ℤ◌, ◌≤ℤ◌, ◌<ℤ◌, MatchOption}
 use Rattle.slope_list.proofs.Common.{option_map, by_lt_z, ints, *ℤ-zero, rise_at, curve_value, end_of}
-use Rattle.slope_list.proofs.Common.{CurveKeepsConvexity, CurvePlacesAreLimited, CurvesHaveValues, value_of}
+use Rattle.slope_list.proofs.Common.{CurveKeepsConvexity, CurvePowersAreWithinLimits, CurveHasValueAtEachPower}
+use Rattle.slope_list.proofs.Common.{value_of}
 use Rattle.std.specs.List.{All}
 use Rattle.uc_model.specs.declared.units.Block.{Block}
 use Rattle.uc_model.specs.declared.units.Curve.{Curve}
@@ -158,7 +159,7 @@ curve_rises c is x u v w p q r =
 -- ---- where it ends
 
 -- a power in a curve within the limits is one
-pub IsPlace-on_curve : CurvePlacesAreLimited
+pub IsPlace-on_curve : CurvePowersAreWithinLimits
 IsPlace-on_curve c is x v h =
     let a = IsOnCurve-from_value c x v h in
     let from = a.from in
@@ -181,7 +182,7 @@ rise_there (b ∷ bs) from x widths low high =
     (r.0 +ℤ (b.price *ℤ b.width), rise_at-past b bs x l ∙ ap (option_map (λ v. v +ℤ (b.price *ℤ b.width))) r.1))
     (λ (l : x ≤ℤ b.width). (b.price *ℤ x, rise_at-inside b bs x l))
 
-pub curve_value-there : CurvesHaveValues
+pub curve_value-there : CurveHasValueAtEachPower
 curve_value-there c is x low high =
     let r = rise_there c.blocks.items c.at (x -ℤ c.at) (wide_of c is) (omega (arith, ints, low))
     (omega (arith, ints, high)) in

@@ -2,7 +2,8 @@
 use Rattle.slope_list.proofs.Common.{◌≡◌, ℕ, zero, suc, ◌+◌, ◌-◌, ◌≤◌, List, [], length, take, Option, Some, None, refl}
 use Rattle.slope_list.proofs.Common.{sym, ap, ◌∙◌, subst, arith, ℤ, pos, negsuc, ◌+ℤ◌, ◌-ℤ◌, ◌*ℤ◌, ◌≤ℤ◌, ◌<ℤ◌}
 use Rattle.slope_list.proofs.Common.{MatchOption, int_min, int_max, ints, clamps, Curve, IsOutput, IsCost, Step}
-use Rattle.slope_list.proofs.Common.{curve_value, reserve_term, StepKeepsConvexity, ConvexityIsOfPlaces, IsFairStep}
+use Rattle.slope_list.proofs.Common.{curve_value, reserve_term, StepKeepsConvexity, ConvexityDependsOnValuesAlone}
+use Rattle.slope_list.proofs.Common.{IsFairStep}
 use Rattle.slope_list.proofs.Common.{IsCostOf, IsStepped, IsSmall, Table, value_of, offset_value, IsConvex, IsPlace}
 use Rattle.slope_list.proofs.Common.{IsAmount, Piece, Start, piece, end_at, last_power, function_of, table_on, table_of}
 use Rattle.slope_list.proofs.Common.{AreSlopes, Stand, kinked, AreSmall, AreWithin, AreGentle, IsValley, nearest, moved}
@@ -30,7 +31,8 @@ stand_rises h lo ps n s (suc d) i j e l =
     ap (end_at lo ps) {x = j} {y = suc (i + d)} (omega arith) in
     omega (arith, ints)
 
-pub slopes_from_stand : ConvexityIsOfPlaces → (h : ℤ → ℤ) (lo : ℤ) (ps : List Piece) → Stand h lo ps (length ps) →
+pub slopes_from_stand : ConvexityDependsOnValuesAlone → (h : ℤ → ℤ) (lo : ℤ) (ps : List Piece) → Stand h lo ps
+    (length ps) →
     IsConvex (table_on h lo (last_power lo ps)) → AreSlopes lo ps
 slopes_from_stand law h lo ps s convex = record {
   rise = λ k i. (s k i).rise;
@@ -100,7 +102,8 @@ module _ (start : Start) (ps : List Piece) (s : Step) (c : Curve) (m lo hi : ℤ
     is_curve = IsCurveSum-on c (paid start ps s m) lo hi costs_on;
   }
 
-  pub stepped_convex : StepKeepsConvexity → ConvexityIsOfPlaces → IsConvex (table_on (stepped start ps s m c) lo hi)
+  pub stepped_convex : StepKeepsConvexity → ConvexityDependsOnValuesAlone → IsConvex
+      (table_on (stepped start ps s m c) lo hi)
   stepped_convex steps places =
       let before = IsConvex-from_curves places (function_of start ps) start.first (last_power start.first ps)
       (along_curves start.first start.level ps slopes) in
@@ -151,7 +154,7 @@ module _ (start : Start) (ps : List Piece) (s : Step) (c : Curve) (m lo hi : ℤ
         (stand-take (stepped start ps s m c) lo used out room drawn) (sym level_is) y low (omega (arith, ints)))
         x)
 
-    pub written_slopes : StepKeepsConvexity → ConvexityIsOfPlaces → AreSlopes lo (take used out)
+    pub written_slopes : StepKeepsConvexity → ConvexityDependsOnValuesAlone → AreSlopes lo (take used out)
     written_slopes steps places =
         let e = last_power-take lo used out room ∙ ends in
         slopes_from_stand places (stepped start ps s m c) lo (take used out)

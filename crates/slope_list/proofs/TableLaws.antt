@@ -1,13 +1,14 @@
 -- A function as a table: that it is convex, and what is added to it.
 use Rattle.slope_list.proofs.Common.{◌≡◌, ◌≤◌, Option, Some, None, sym, ap, ◌∙◌, subst, arith, ℤ, pos, ◌+ℤ◌, ◌≤ℤ◌}
 use Rattle.slope_list.proofs.Common.{MatchOption, option_map, ints, value_of, IsConvex, IsSum, IsCurveSum, curve_value}
-use Rattle.slope_list.proofs.Common.{ConvexityIsOfPlaces, Curve, HasCosts, with_cost, table_on, Curves}
+use Rattle.slope_list.proofs.Common.{ConvexityDependsOnValuesAlone, Curve, HasCosts, with_cost, table_on, Curves}
 use Rattle.slope_list.proofs.BlockLaws.{cost_at_is, mapped_some}
 use Rattle.slope_list.proofs.FunctionLaws.{on_inside, by_power, on_back}
 
 -- ---- convexity
 
-pub IsConvex-from_curves : ConvexityIsOfPlaces → (f : ℤ → ℤ) (a b : ℤ) → Curves f a b → IsConvex (table_on f a b)
+pub IsConvex-from_curves : ConvexityDependsOnValuesAlone → (f : ℤ → ℤ) (a b : ℤ) → Curves f a b → IsConvex
+    (table_on f a b)
 IsConvex-from_curves law f a b c = (law (table_on f a b)).1 (λ x u v w p q r.
     let d = on_back f a b x u p in
     let e = on_back f a b (x +ℤ pos 1) v q in
@@ -17,7 +18,7 @@ IsConvex-from_curves law f a b c = (law (table_on f a b)).1 (λ x u v w p q r.
     let s : f ((x +ℤ pos 1) +ℤ pos 1) ≡ f (x +ℤ pos 2) = ap f (omega (arith, ints)) in
     omega (arith, ints))
 
-pub convex_steps : ConvexityIsOfPlaces → (f : ℤ → ℤ) (a b x : ℤ) → IsConvex (table_on f a b) → a ≤ℤ x →
+pub convex_steps : ConvexityDependsOnValuesAlone → (f : ℤ → ℤ) (a b x : ℤ) → IsConvex (table_on f a b) → a ≤ℤ x →
     (x +ℤ pos 2) ≤ℤ b → (f (x +ℤ pos 1) +ℤ f (x +ℤ pos 1)) ≤ℤ (f x +ℤ f (x +ℤ pos 2))
 convex_steps law f a b x c low high =
     (law (table_on f a b)).0 c x (f x) (f (x +ℤ pos 1)) (f (x +ℤ pos 2))

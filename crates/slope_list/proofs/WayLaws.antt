@@ -1,6 +1,6 @@
 -- The way along a run.
 use Rattle.slope_list.proofs.Common.{◌≡◌, ℕ, suc, ◌+◌, ◌<◌, ◌≤◌, List, length, ◌∙◌, sym, ap, arith, ℤ, ◌+ℤ◌, ◌≤ℤ◌, ◌<ℤ◌}
-use Rattle.slope_list.proofs.Common.{ints, Curve, Piece, Cursor, Pen, Run, Way, Window, piece, end_at, IsPlace}
+use Rattle.slope_list.proofs.Common.{ints, Curve, Piece, Cursor, Pen, Run, StepProgress, Window, piece, end_at, IsPlace}
 use Rattle.slope_list.proofs.Common.{IsInBlock, IsDrawn, IsFurther, stepped, IsLine, IsPlaced, last_power, function_of}
 use Rattle.slope_list.proofs.Common.{nearest, paid, runs_from, IsRun}
 use Rattle.slope_list.proofs.LineLaws.{line_part}
@@ -51,7 +51,7 @@ module _ (w : Window) (from : ℤ) (run : Run) (r : IsRun w from run) (cursor : 
       }
 
 -- the pen where the run ends
-pub record IsEnded (w : Window) (c : Curve) (run : Run) (from : Way) (next : ℕ) (old new : List Piece)
+pub record IsEnded (w : Window) (c : Curve) (run : Run) (from : StepProgress) (next : ℕ) (old new : List Piece)
     (pen : Pen) : Type 0 where
   pub at : pen.at ≡ run.until +ℤ run.shift
   pub block : IsInBlock c pen.at pen.span
@@ -59,7 +59,8 @@ pub record IsEnded (w : Window) (c : Curve) (run : Run) (from : Way) (next : ℕ
       IsDrawn (stepped w.start w.pieces.now w.step w.turn c) lo new pen
   pub used : pen.used + from.pen.span.index + from.cursor.next ≤ from.pen.used + pen.span.index + next + 1
 
-pub run_ended : (w : Window) (c : Curve) (run : Run) (from : Way) (cursor : Cursor) (old new : List Piece) (pen : Pen) →
+pub run_ended : (w : Window) (c : Curve) (run : Run) (from : StepProgress) (cursor : Cursor) (old new : List Piece)
+    (pen : Pen) →
     IsRun w from.cursor.at run → from.pen.at ≡ from.cursor.at +ℤ run.shift
     → IsPlaced w.start.first w.pieces.now cursor → cursor.at ≡ run.until →
     IsEnded w c run from cursor.next old new pen →

@@ -48,8 +48,8 @@ IsConvexByPlaces f =
     value_of f (x +ℤ pos 2) ≡ Some c → (b +ℤ b) ≤ℤ (a +ℤ c)
 
 -- which is what convexity of the list of values means
-abbrev pub ConvexityIsOfPlaces : Type 0
-ConvexityIsOfPlaces = (f : Table) → IsConvex f ↔ IsConvexByPlaces f
+abbrev pub ConvexityDependsOnValuesAlone : Type 0
+ConvexityDependsOnValuesAlone = (f : Table) → IsConvex f ↔ IsConvexByPlaces f
 
 -- each effect fixes the new function at every power
 abbrev pub PointIsExact : Type 0
@@ -111,12 +111,12 @@ WindowIsOfValues =
     IsWindow up down lo hi f g → IsWindow up down lo hi f' g'
 
 -- a curve within the limits has values at powers within them alone
-abbrev pub CurvePlacesAreLimited : Type 0
-CurvePlacesAreLimited =
+abbrev pub CurvePowersAreWithinLimits : Type 0
+CurvePowersAreWithinLimits =
     (c : Curve) → IsLimitedCurve c → (x v : ℤ) → curve_value c x ≡ Some v → IsPlace x
 
 -- and it has one at each power from its first to its last
-abbrev pub CurvesHaveValues : Type 0
-CurvesHaveValues =
+abbrev pub CurveHasValueAtEachPower : Type 0
+CurveHasValueAtEachPower =
     (c : Curve) → IsLimitedCurve c → (x : ℤ) → c.at ≤ℤ x → x ≤ℤ end_of c.at c.blocks.items → (v : ℤ)
     × (curve_value c x ≡ Some v)

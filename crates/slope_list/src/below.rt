@@ -7,11 +7,11 @@ ghost use Rattle.slope_list.specs.Pieces.{IsLine};
 ghost use Rattle.slope_list.specs.Cursors.{AreWithin};
 ghost use Rattle.slope_list.specs.Below.{IsReached, IsNowhereAbove, IsShift};
 
-use crate::cursor::{Reached, seek_power};
-use crate::piece::{Piece, Start, last_power, level_within_piece};
+use crate::cursor::{Reached, value_and_piece_at_power};
+use crate::piece::{Piece, Start, last_power, value_at_power_in_piece};
 
 /// Whether a value with the shift is above another one.
-fn exceeds_other(value: i64, shift: i64, other: i64) -> bool
+fn is_shifted_value_above_other(value: i64, shift: i64, other: i64) -> bool
     requires value { IsAmount value }
     requires shift { IsShift shift }
     ensures { IsFalse result → (value +ℤ shift) ≤ℤ other }
@@ -40,7 +40,7 @@ fn advance_to_power(pieces: &[Piece], start: Start, at: i64, from: Reached, end:
     };
     Reached {
         next,
-        value: level_within_piece(from.value, piece, at, end),
+        value: value_at_power_in_piece(from.value, piece, at, end),
     }
 }
 
@@ -54,7 +54,13 @@ fn domain_covers(pieces: &[Piece], start: Start, others: &[Piece], other: Start)
 }
 
 /// Whether a function is wherever another one is, and with the shift is nowhere above it there.
-pub fn is_below(pieces: &[Piece], start: Start, others: &[Piece], other: Start, shift: i64) -> bool
+pub fn is_function_nowhere_above(
+    pieces: &[Piece],
+    start: Start,
+    others: &[Piece],
+    other: Start,
+    shift: i64,
+) -> bool
     requires slopes { AreSlopes start.first pieces.now }
     requires within { AreWithin start pieces.now }
     requires other_slopes { AreSlopes other.first others.now }
@@ -67,9 +73,9 @@ pub fn is_below(pieces: &[Piece], start: Start, others: &[Piece], other: Start, 
         return false;
     }
     let mut at = other.first;
-    let mut here = seek_power(pieces, start, at);
-    let mut there = seek_power(others, other, at);
-    if exceeds_other(here.value, shift, there.value) {
+    let mut here = value_and_piece_at_power(pieces, start, at);
+    let mut there = value_and_piece_at_power(others, other, at);
+    if is_shifted_value_above_other(here.value, shift, there.value) {
         return false;
     }
     while there.next < others.len() {
@@ -77,7 +83,7 @@ pub fn is_below(pieces: &[Piece], start: Start, others: &[Piece], other: Start, 
         here = advance_to_power(pieces, start, at, here, end);
         there = advance_to_power(others, other, at, there, end);
         at = end;
-        if exceeds_other(here.value, shift, there.value) {
+        if is_shifted_value_above_other(here.value, shift, there.value) {
             return false;
         }
     }

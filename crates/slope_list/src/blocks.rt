@@ -3,7 +3,7 @@ ghost use Rattle.std.specs.Prelude.{◌≡◌, ◌≤◌, ◌≤ℤ◌, ◌<ℤ�
 ghost use Rattle.slope_list.specs.Curve.{curve_value, end_of, IsLimitedCurve};
 ghost use Rattle.slope_list.specs.Blocks.{IsInBlock};
 
-use crate::piece::{Piece, level_within_piece};
+use crate::piece::{Piece, value_at_power_in_piece};
 use uc_model::units::Curve;
 
 /// A block of the curve.
@@ -27,7 +27,7 @@ pub struct Found {
 }
 
 /// Finds a power of the curve, in kilowatts.
-pub fn find_power(curve: &Curve, at: i64) -> Found
+pub fn cost_and_block_at_power(curve: &Curve, at: i64) -> Found
     requires limited { IsLimitedCurve curve.now }
     requires from { curve.now.at ≤ℤ at }
     requires to { at ≤ℤ end_of curve.now.at curve.now.blocks.items }
@@ -45,7 +45,7 @@ pub fn find_power(curve: &Curve, at: i64) -> Found
         };
         if at < piece.end {
             return Found {
-                value: level_within_piece(value, piece, from, at),
+                value: value_at_power_in_piece(value, piece, from, at),
                 span: Span {
                     index,
                     end: piece.end,
@@ -53,7 +53,7 @@ pub fn find_power(curve: &Curve, at: i64) -> Found
                 },
             };
         }
-        value = level_within_piece(value, piece, from, piece.end);
+        value = value_at_power_in_piece(value, piece, from, piece.end);
         from = piece.end;
     }
     Found {

@@ -3,7 +3,7 @@ ghost use Rattle.std.specs.Prelude.{◌≡◌, ◌≤ℤ◌};
 ghost use Rattle.slope_list.specs.Pieces.{last_power, function_of, AreSlopes};
 ghost use Rattle.slope_list.specs.Cursors.{IsPlaced, AreWithin, IsValley};
 
-use crate::piece::{Piece, Start, end_of_pieces, level_within_piece};
+use crate::piece::{Piece, Start, end_of_pieces, value_at_power_in_piece};
 
 /// A power of the function, and the index of the piece that goes on there.
 #[derive(Clone, Copy)]
@@ -41,7 +41,7 @@ pub struct Reached {
 }
 
 /// Finds a power of the interval, in kilowatts.
-pub fn seek_power(pieces: &[Piece], start: Start, at: i64) -> Reached
+pub fn value_and_piece_at_power(pieces: &[Piece], start: Start, at: i64) -> Reached
     requires slopes { AreSlopes start.first pieces.now }
     requires from { start.first ≤ℤ at }
     requires to { at ≤ℤ last_power start.first pieces.now }
@@ -54,12 +54,12 @@ pub fn seek_power(pieces: &[Piece], start: Start, at: i64) -> Reached
     let mut next = 0;
     while next < pieces.len() && pieces[next].end <= at {
         let piece = pieces[next];
-        value = level_within_piece(value, piece, from, piece.end);
+        value = value_at_power_in_piece(value, piece, from, piece.end);
         from = piece.end;
         next += 1;
     }
     if next < pieces.len() {
-        value = level_within_piece(value, pieces[next], from, at);
+        value = value_at_power_in_piece(value, pieces[next], from, at);
     }
     Reached { next, value }
 }

@@ -45,7 +45,7 @@ fn write_piece(slope: i64, end: i64, pen: Pen, out: &mut [Piece]) -> Pen
 }
 
 /// The same pen at the next block.
-fn pen_at_next_block(curve: &Curve, pen: Pen) -> Pen
+fn advance_to_next_cost_block(curve: &Curve, pen: Pen) -> Pen
     requires limited { IsLimitedCurve curve.now }
     requires block { IsInBlock curve.now pen.at pen.span }
     requires passed { pen.span.end ≤ℤ pen.at }
@@ -69,7 +69,7 @@ fn pen_at_next_block(curve: &Curve, pen: Pen) -> Pen
 
 /// Writes up to where the pen's block ends, if the pen isn't there, and goes on with the next
 /// block.
-fn write_to_block_end(curve: &Curve, slope: i64, pen: Pen, out: &mut [Piece]) -> Pen
+fn write_piece_to_cost_block_end(curve: &Curve, slope: i64, pen: Pen, out: &mut [Piece]) -> Pen
     requires limited { IsLimitedCurve curve.now }
     requires block { IsInBlock curve.now pen.at pen.span }
     requires costs { HasCosts curve.now pen.at pen.span.end }
@@ -86,14 +86,20 @@ fn write_to_block_end(curve: &Curve, slope: i64, pen: Pen, out: &mut [Piece]) ->
 {
     if pen.at < pen.span.end {
         let written = write_piece(slope, pen.span.end, pen, out);
-        return pen_at_next_block(curve, written);
+        return advance_to_next_cost_block(curve, written);
     }
-    pen_at_next_block(curve, pen)
+    advance_to_next_cost_block(curve, pen)
 }
 
 /// Writes the pieces of a part of one slope and the curve, up to a power in kilowatts. The slope is
 /// in millionths of the currency for a kilowatt.
-pub fn write_part_pieces(curve: &Curve, slope: i64, end: i64, from: Pen, out: &mut [Piece]) -> Pen
+pub fn write_part_over_cost_blocks(
+    curve: &Curve,
+    slope: i64,
+    end: i64,
+    from: Pen,
+    out: &mut [Piece],
+) -> Pen
     requires limited { IsLimitedCurve curve.now }
     requires rise { from.at <ℤ end }
     requires block { IsInBlock curve.now from.at from.span }
@@ -109,7 +115,7 @@ pub fn write_part_pieces(curve: &Curve, slope: i64, end: i64, from: Pen, out: &m
 {
     let mut pen = from;
     while pen.span.end < end {
-        pen = write_to_block_end(curve, slope, pen, out);
+        pen = write_piece_to_cost_block_end(curve, slope, pen, out);
     }
     write_piece(slope, end, pen, out)
 }

@@ -19,7 +19,7 @@ pub(crate) struct Part {
 }
 
 /// Where the reserve meets its cap, or before all powers where reserve isn't paid for.
-fn reserve_bend_power(step: Step) -> i64
+fn power_where_reserve_is_capped(step: Step) -> i64
     requires fair { IsFairStep step }
     ensures paid { pos 0 <ℤ step.reserve_price → result ≡ bend_of step }
     ensures free { step.reserve_price ≤ℤ pos 0 → result ≡ negsuc 9223372036854775807 }
@@ -36,7 +36,7 @@ pub(crate) fn piece_less_reserve(piece: Piece, cursor: Cursor, step: Step) -> Pi
     requires gentle { IsGentle piece.slope }
     ensures { IsLowered step cursor.at piece result }
 {
-    let bend = reserve_bend_power(step);
+    let bend = power_where_reserve_is_capped(step);
     if cursor.at >= bend {
         return piece;
     }
@@ -82,7 +82,7 @@ pub(crate) fn part_less_reserve(pieces: &[Piece], cursor: Cursor, step: Step) ->
 /// The least power of the least value, less the worth of the best reserve, in kilowatts. Where the
 /// function itself falls, it falls all the more less that worth, so the parts before that are
 /// passed by.
-pub fn turning_power(pieces: &[Piece], start: Start, step: Step) -> i64
+pub fn power_of_least_value_less_reserve(pieces: &[Piece], start: Start, step: Step) -> i64
     requires slopes { AreSlopes start.first pieces.now }
     requires fair { IsFairStep step }
     requires gentle { AreGentle pieces.now }

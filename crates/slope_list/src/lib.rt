@@ -18,13 +18,13 @@ mod draw;
 mod kink;
 mod piece;
 mod piece_laws;
+mod progress;
 mod read;
 mod run;
 pub mod shape_laws;
 mod slopes;
 mod step;
 pub mod step_terms;
-mod way;
 mod window;
 
 pub use read::Spot;

@@ -23,7 +23,7 @@ pub struct Start {
 
 /// The level at a power, where it was known at another power of the same piece. Powers are in
 /// kilowatts, levels in millionths of the currency.
-pub fn level_within_piece(level: i64, piece: Piece, from: i64, to: i64) -> i64
+pub fn value_at_power_in_piece(level: i64, piece: Piece, from: i64, to: i64) -> i64
     requires { CanGo level piece.slope from to }
     ensures { result ≡ level +ℤ piece.slope *ℤ (to -ℤ from) }
 {

@@ -7,8 +7,8 @@ ghost use Rattle.slope_list.specs.Below.{IsAbove, IsShift};
 ghost use Rattle.slope_list.specs.Pieces.{last_power, function_of, table_of, AreSlopes};
 ghost use Rattle.slope_list.specs.Cursors.{AreWithin};
 
-use crate::cursor::{end_of_fall, seek_power};
-use crate::piece::{Piece, Start, last_power, level_within_piece};
+use crate::cursor::{end_of_fall, value_and_piece_at_power};
+use crate::piece::{Piece, Start, last_power, value_at_power_in_piece};
 
 /// A power and the value there.
 #[derive(Clone, Copy)]
@@ -20,7 +20,7 @@ pub struct Spot {
 }
 
 /// Whether a value with the shift is above a limit.
-fn exceeds_limit(value: i64, shift: i64, limit: i64) -> bool
+fn is_shifted_value_above_limit(value: i64, shift: i64, limit: i64) -> bool
     requires value { IsAmount value }
     requires shift { IsShift shift }
     ensures { IsTrue result → limit <ℤ (value +ℤ shift) }
@@ -30,7 +30,7 @@ fn exceeds_limit(value: i64, shift: i64, limit: i64) -> bool
 
 /// Whether the function with the shift is above a limit at each power. It falls at first, so only
 /// its falling pieces are looked at, and only as long as they are above.
-pub fn is_above(pieces: &[Piece], start: Start, shift: i64, limit: i64) -> bool
+pub fn is_function_above_limit(pieces: &[Piece], start: Start, shift: i64, limit: i64) -> bool
     requires slopes { AreSlopes start.first pieces.now }
     requires within { AreWithin start pieces.now }
     requires shift { IsShift shift }
@@ -39,20 +39,20 @@ pub fn is_above(pieces: &[Piece], start: Start, shift: i64, limit: i64) -> bool
     let mut at = start.first;
     let mut value = start.level;
     for piece in pieces {
-        if !exceeds_limit(value, shift, limit) {
+        if !is_shifted_value_above_limit(value, shift, limit) {
             return false;
         }
         if piece.slope >= 0 {
             return true;
         }
-        value = level_within_piece(value, *piece, at, piece.end);
+        value = value_at_power_in_piece(value, *piece, at, piece.end);
         at = piece.end;
     }
-    exceeds_limit(value, shift, limit)
+    is_shifted_value_above_limit(value, shift, limit)
 }
 
 /// The value at a power of the interval.
-fn spot_at_power(pieces: &[Piece], start: Start, at: i64) -> Spot
+fn power_with_its_value(pieces: &[Piece], start: Start, at: i64) -> Spot
     requires slopes { AreSlopes start.first pieces.now }
     requires from { start.first ≤ℤ at }
     requires to { at ≤ℤ last_power start.first pieces.now }
@@ -60,7 +60,7 @@ fn spot_at_power(pieces: &[Piece], start: Start, at: i64) -> Spot
     ensures at { result.at ≡ at }
     ensures value { result.value ≡ function_of start pieces.now at }
 {
-    let reached = seek_power(pieces, start, at);
+    let reached = value_and_piece_at_power(pieces, start, at);
     Spot {
         at,
         value: reached.value,
@@ -68,7 +68,7 @@ fn spot_at_power(pieces: &[Piece], start: Start, at: i64) -> Spot
 }
 
 /// The least value, at its least power.
-pub fn least_spot(pieces: &[Piece], start: Start) -> Spot
+pub fn spot_of_least_value(pieces: &[Piece], start: Start) -> Spot
     requires slopes { AreSlopes start.first pieces.now }
     requires within { AreWithin start pieces.now }
     ensures { IsLeast (table_of start pieces.now) result.value result.at }
@@ -79,7 +79,7 @@ pub fn least_spot(pieces: &[Piece], start: Start) -> Spot
         if piece.slope >= 0 {
             return Spot { at, value };
         }
-        value = level_within_piece(value, *piece, at, piece.end);
+        value = value_at_power_in_piece(value, *piece, at, piece.end);
         at = piece.end;
     }
     Spot { at, value }
@@ -99,5 +99,5 @@ pub fn least_in(pieces: &[Piece], start: Start, lo: i64, hi: i64) -> Option<Spot
         return None;
     }
     let at = low.max(high.min(end_of_fall(pieces, start).at));
-    Some(spot_at_power(pieces, start, at))
+    Some(power_with_its_value(pieces, start, at))
 }

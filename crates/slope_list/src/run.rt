@@ -44,7 +44,7 @@ fn run_less_reserve(run: Run, cursor: Cursor, step: Step) -> Run
 
 /// The falling or rising run from a power on: up to the turn, the bend or the last power that is
 /// asked for.
-pub fn next_run(window: &Window<'_>, cursor: Cursor) -> Run
+pub fn next_run_of_pieces(window: &Window<'_>, cursor: Cursor) -> Run
     requires placed { IsPlaced window.now.start.first window.now.pieces.now cursor }
     requires falls { cursor.at <ℤ window.now.turn
         → cursor.at <ℤ (window.now.high +ℤ window.now.step.ramp_down) }

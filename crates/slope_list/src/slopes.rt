@@ -87,7 +87,7 @@ pub struct Lowest {
 }
 
 /// The least value of what a step has drawn.
-fn lowest_after_step(pieces: &[Piece], stepped: Stepped) -> Option<Lowest>
+fn least_value_after_step(pieces: &[Piece], stepped: Stepped) -> Option<Lowest>
     requires slopes { IfSome stepped.made (ArePiecesAfter pieces.now) }
     requires within { IfSome stepped.made (AreWithinAfter pieces.now) }
     requires room { IfSome stepped.made (λ d. d.used ≤ length pieces.now) }
@@ -97,7 +97,7 @@ fn lowest_after_step(pieces: &[Piece], stepped: Stepped) -> Option<Lowest>
 {
     match stepped.made {
         Some(made) => {
-            let spot = read::least_spot(&pieces[..made.used], made.start);
+            let spot = read::spot_of_least_value(&pieces[..made.used], made.start);
             Some(Lowest {
                 value: spot.value,
                 at: spot.at,
@@ -136,7 +136,7 @@ impl Slopes {
     }
 
     /// Begins anew at one power.
-    pub fn restart(&mut self, at: i64, value: i64)
+    pub fn reset_to_single_power(&mut self, at: i64, value: i64)
         requires power { IsPlace at }
         requires amount { IsAmount value }
         ensures point { IsPoint at value (shown self.new) }
@@ -177,7 +177,12 @@ impl Slopes {
 
     /// The least value of what a step makes, which isn't taken, or None where it makes nothing.
     /// What it makes is drawn in the spare room.
-    pub fn least_beside(&self, step: Step, curve: &Curve, spare: &mut Spare) -> Option<Lowest>
+    pub fn least_value_if_stepped(
+        &self,
+        step: Step,
+        curve: &Curve,
+        spare: &mut Spare,
+    ) -> Option<Lowest>
         requires step { IsFairStep step }
         requires curve { IsCostOf step curve.now }
         requires small { IsSmall (shown self.now) }
@@ -193,7 +198,7 @@ impl Slopes {
         lengthen_pieces(&mut spare.pieces, made.used + curve.blocks.len() + 3);
         let pieces = &self.pieces[..made.used];
         let stepped = write_stepped_pieces(pieces, made.start, step, curve, &mut spare.pieces);
-        lowest_after_step(&spare.pieces, stepped)
+        least_value_after_step(&spare.pieces, stepped)
     }
 
     /// The least value and its least power, or None on an empty interval.
@@ -202,18 +207,23 @@ impl Slopes {
             (λ r. IsLeast (shown self.now) r.value r.at) }
     {
         match self.made {
-            Some(made) => Some(read::least_spot(&self.pieces[..made.used], made.start)),
+            Some(made) => Some(read::spot_of_least_value(&self.pieces[..made.used], made.start)),
             None => None,
         }
     }
 
     /// Whether it has a power, and with the shift is above a limit at each.
-    pub fn is_above(&self, shift: i64, limit: i64) -> bool
+    pub fn is_function_above_limit(&self, shift: i64, limit: i64) -> bool
         requires { IsShift shift }
         ensures { OnTrue result (IsAbove (shown self.now) shift limit) }
     {
         match self.made {
-            Some(made) => read::is_above(&self.pieces[..made.used], made.start, shift, limit),
+            Some(made) => read::is_function_above_limit(
+                &self.pieces[..made.used],
+                made.start,
+                shift,
+                limit,
+            ),
             None => false,
         }
     }
@@ -269,13 +279,13 @@ impl Slopes {
 
     /// Whether it is wherever another function is, and with the shift is nowhere above it there.
     /// False tells nothing where one of them is empty.
-    pub fn is_below(&self, other: &Slopes, shift: i64) -> bool
+    pub fn is_function_nowhere_above(&self, other: &Slopes, shift: i64) -> bool
         requires { IsShift shift }
         ensures { OnTrue result (IsNowhereAbove (shown self.now) (shown other.now) shift) }
     {
         match self.made {
             Some(made) => match other.made {
-                Some(others) => below::is_below(
+                Some(others) => below::is_function_nowhere_above(
                     &self.pieces[..made.used],
                     made.start,
                     &other.pieces[..others.used],

@@ -13,14 +13,14 @@ ghost use Rattle.slope_list.specs.Blocks.{IsInBlock, HasCosts};
 ghost use Rattle.slope_list.specs.After.{stepped, table_after, ArePiecesAfter, AreWithinAfter};
 ghost use Rattle.slope_list.specs.Turn.{IsTurn};
 
-use crate::blocks::find_power;
-use crate::cursor::{Cursor, seek_power};
+use crate::blocks::cost_and_block_at_power;
+use crate::cursor::{Cursor, value_and_piece_at_power};
 use crate::draw::Pen;
-use crate::kink::turning_power;
+use crate::kink::power_of_least_value_less_reserve;
 use crate::piece::{Piece, Start, last_power};
-use crate::shape_laws::{convexity_is_of_places, steps_keep_convexity};
+use crate::progress::write_pieces_after_step;
+use crate::shape_laws::{convexity_depends_on_values_alone, steps_keep_convexity};
 use crate::step_terms::Step;
-use crate::way::draw_step;
 use crate::window::Window;
 use uc_model::units::Curve;
 
@@ -85,8 +85,8 @@ pub(crate) fn first_power_after_step(window: &Window<'_>, curve: &Curve, low: i6
 {
     let step = window.step;
     let near = (low - step.ramp_up).max((low + step.ramp_down).min(window.turn));
-    let reached = seek_power(window.pieces, window.start, near);
-    let found = find_power(curve, low);
+    let reached = value_and_piece_at_power(window.pieces, window.start, near);
+    let found = cost_and_block_at_power(curve, low);
     Opening {
         cursor: Cursor {
             at: near,
@@ -127,12 +127,12 @@ pub fn write_stepped_pieces(
     let high = step
         .most
         .min(last_power(pieces, start.first) + step.ramp_up);
-    let turn = turning_power(pieces, start, step);
+    let turn = power_of_least_value_less_reserve(pieces, start, step);
     if low > high {
         return Stepped { made: None, turn };
     }
     steps_keep_convexity();
-    convexity_is_of_places();
+    convexity_depends_on_values_alone();
     let window = Window {
         pieces,
         start,
@@ -141,7 +141,7 @@ pub fn write_stepped_pieces(
         high,
     };
     let opening = first_power_after_step(&window, curve, low);
-    let used = draw_step(&window, curve, opening.cursor, opening.pen, out);
+    let used = write_pieces_after_step(&window, curve, opening.cursor, opening.pen, out);
     Stepped {
         made: Some(Made {
             start: Start {

@@ -23,7 +23,7 @@ pub struct Window<'a> {
 }
 
 /// The last power of the least value, as far as one piece goes.
-pub fn past_flat(window: &Window<'_>, cursor: Cursor) -> Cursor
+pub fn cursor_past_flat_piece(window: &Window<'_>, cursor: Cursor) -> Cursor
     requires placed { IsPlaced window.now.start.first window.now.pieces.now cursor }
     requires turn { cursor.at ≡ window.now.turn }
     ensures flat { IsFlat (kinked window.now.start window.now.pieces.now window.now.step) cursor.at
@@ -41,7 +41,7 @@ pub fn past_flat(window: &Window<'_>, cursor: Cursor) -> Cursor
 }
 
 /// Whether a power, which is the nearest one in reach, stands for a flat part.
-pub fn is_flat(window: &Window<'_>, cursor: Cursor, at: i64) -> bool
+pub fn is_in_flat_part(window: &Window<'_>, cursor: Cursor, at: i64) -> bool
     requires placed { IsPlaced window.now.start.first window.now.pieces.now cursor }
     ensures flat { IsTrue result → (window.now.turn ≤ℤ cursor.at)
         × (at <ℤ (cursor.at +ℤ window.now.step.ramp_up)) }

@@ -15,7 +15,7 @@ pub use Rattle.std.proofs.lemmas.Option.{get_or_from_slice_get}
 pub use Rattle.std.specs.Int.{int_min, int_max}
 pub use Rattle.std.specs.Option.{option_map}
 pub use Rattle.std.specs.Prelude.{slice_get, MatchOption, IfNone, IsTrue, int_lt}
-pub use Rattle.cost_curve.specs.CostCurve.{IsCostCurve, AreCostPoints, EnvelopeIsCost}
+pub use Rattle.cost_curve.specs.CostCurve.{IsCostCurve, AreCostPoints, EnvelopeIsWithinCostLimit}
 pub use Rattle.slope_list.specs.Curve.{curve_value, reserve_term, end_of, IsLimitedCurve}
 pub use Rattle.slope_list.specs.Effect.{IsSum, IsLeastIn, IsLeast, IsCurveSum, IsPoint, Reaches}
 pub use Rattle.slope_list.specs.Table.{Table, value_of, HasNone, offset_value, IsEmpty, IsPlace, IsAmount}
@@ -25,7 +25,7 @@ pub use Rattle.slope_list.specs.Turn.{IsTurn, IsBottom, IsFirst, IsLast}
 pub use Rattle.spell_run.proofs.Arithmetic.{signed, bounded}
 pub use Rattle.spell_run.proofs.Options.{same_some}
 pub use Rattle.spell_run.specs.Frontier.{IsFrontier, IsReached}
-pub use Rattle.spell_run.specs.Laws.{best_reserve, most_reserve, IsReserve, ReserveIsAKink, ReserveIsBest}
+pub use Rattle.spell_run.specs.Laws.{best_reserve, most_reserve, IsReserve, ReserveEarningsHaveAKink, MostReserveIsBest}
 pub use Rattle.spell_run.specs.Logs.{entry_at, left_from, AreLogged, left_by, IsTrace}
 pub use Rattle.spell_run.specs.Notes.{passed_at, IsNoted, IsEndNoted, end_cost, IsSpellNoted}
 pub use Rattle.spell_run.specs.Spells.{IsSpellWithin, IsDispatch, spell_cost, IsSpellAnswer}

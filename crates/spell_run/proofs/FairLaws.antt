@@ -2,7 +2,7 @@
 use Rattle.spell_run.proofs.Common
 use Common.{◌≡◌, ℕ, suc, ◌-◌, ◌<◌, ◌⊎◌, inl, inr, ℤ, pos, neg_ℤ, ◌+ℤ◌, ◌-ℤ◌, ◌≤ℤ◌, Bool, true, false, cond, List}
 use Common.{length, Some, refl, sym, ap, ◌∙◌, arith, w64, FitsSigned, slice_get, int_min, to_z-of_z, bounded}
-use Common.{signed, get_or_from_slice_get, IsCostCurve, AreCostPoints, EnvelopeIsCost, end_of}
+use Common.{signed, get_or_from_slice_get, IsCostCurve, AreCostPoints, EnvelopeIsWithinCostLimit, end_of}
 use Common.{IsLimitedCurve, same_some, Curve, ThermalUnit, PriceLists, envelope, IsFrom, IsPower, IsOutput, IsCost}
 use Common.{IsThermalUnit, ArePrices, int_at, fits_within, IsWithin, Step, cap_at, step_at, IsFairStep, IsCostOf}
 use Rattle.plain_lists.proofs.SignedLaws.{stored, stored_is}
@@ -136,7 +136,8 @@ module _ {g : ThermalUnit} {π : PriceLists} {k : ℕ} (starts stops : Bool) (un
 
 -- ---- the curve
 
-module _ (g : ThermalUnit) (c : Curve) (unit : IsThermalUnit g) (curve : IsCostCurve g.points c) (law : EnvelopeIsCost)
+module _ (g : ThermalUnit) (c : Curve) (unit : IsThermalUnit g) (curve : IsCostCurve g.points c)
+    (law : EnvelopeIsWithinCostLimit)
   where
     points : AreCostPoints g.points
     points = record {
@@ -180,7 +181,7 @@ module _ (g : ThermalUnit) (c : Curve) (unit : IsThermalUnit g) (curve : IsCostC
 -- what a call that makes a step and one that asks for it share
 pub cost_is : {g : ThermalUnit} {π : PriceLists} {k : ℕ} (starts stops : Bool) {s : Step} {c : Curve} →
     IsStep s (step_at g π k starts stops) → IsThermalUnit g → ArePrices π → k < length π.energy →
-    IsCostCurve g.points c → EnvelopeIsCost → IsCostOf s c
+    IsCostCurve g.points c → EnvelopeIsWithinCostLimit → IsCostOf s c
 cost_is {g = g} {π = π} {k = k} starts stops {c = c} is unit prices within curve law =
     rw is (cost_of_step g c unit curve law π k starts stops (prices.reserve k (pos 0) (omega arith)).at_least)
 

@@ -2,7 +2,7 @@
 use Rattle.spell_run.proofs.Common
 use Common.{◌≡◌, ℕ, zero, suc, ◌+◌, ◌-◌, ◌*◌, ◌<◌, ◌≤◌, ◌⊎◌, inl, inr, ℤ, pos, neg_ℤ, ◌+ℤ◌, ◌≤ℤ◌, Bool, true, false}
 use Common.{eqb, ltb, length, Option, Some, None, IfSome, refl, sym, ap, ◌∙◌, subst, arith, lt-ltb, length-replicate}
-use Common.{IsCostCurve, EnvelopeIsCost, IsPoint, same_some, Table, value_of, Curve, ThermalUnit, PriceLists}
+use Common.{IsCostCurve, EnvelopeIsWithinCostLimit, IsPoint, same_some, Table, value_of, Curve, ThermalUnit, PriceLists}
 use Common.{Schedule, IsFrom, IsOutput, IsThermalUnit, ArePrices, power_in, reserve_in, int_at, IsWithin, IsReached}
 use Common.{IsFrontier, IsDispatch, spell_cost, signed, IsSpellAnswer, IsSpellWithin, cap_at, step_at, level, IsRun}
 use Common.{IsStepped, IsSmall, IsLeastCost, IsLeastCostIn}
@@ -89,7 +89,8 @@ IsAnswer g π first k o =
 -- ---- one more period
 
 module _ {g : ThermalUnit} {π : PriceLists} {first k : ℕ} {c : Curve} (unit : IsThermalUnit g) (prices : ArePrices π)
-    (curve : IsCostCurve g.points c) (law : EnvelopeIsCost) (within : k < length π.energy) (from : first ≤ suc k) where
+    (curve : IsCostCurve g.points c) (law : EnvelopeIsWithinCostLimit) (within : k < length π.energy)
+    (from : first ≤ suc k) where
   abbrev starts : Bool
   starts = eqb first (suc k)
 

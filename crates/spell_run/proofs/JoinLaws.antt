@@ -3,7 +3,8 @@ use Rattle.spell_run.proofs.Common
 use Common.{◌≡◌, ℕ, suc, ◌<◌, ◌≤◌, ℤ, Bool, true, false, eqb, Some, length, refl, sym, ◌∙◌, arith, eqb-true, Table}
 use Common.{value_of, ThermalUnit, PriceLists, Schedule, IsThermalUnit, power_in, reserve_in, IsFrontier, IsDispatch}
 use Common.{IsMove, level, IsRun, signed}
-use Rattle.spell_run.specs.Joins.{IsRunOn, IsDispatchOn, RunsGoOn, DispatchesGoOn, DispatchesAreRuns}
+use Rattle.spell_run.specs.Joins.{IsRunOn, IsDispatchOn, RunsMeetingAtPowerContinueAlike}
+use Rattle.spell_run.specs.Joins.{DispatchesMeetingAtPowerContinueAlike, DispatchesAreRuns}
 use Rattle.spell_run.proofs.RunLaws.{level_power, move_same, run_more, IsBuilt, build, reserve_not_negative}
 use Rattle.spell_run.proofs.RunLaws.{dispatch_from_run, run_from_dispatch, end_from_dispatch}
 use Rattle.spell_run.proofs.StepLaws.{under_cap, cap_over}
@@ -66,10 +67,10 @@ module _ (g : ThermalUnit) (π : PriceLists) (first other k : ℕ) (f : Table) (
         cost = j.cost;
       }
 
-pub runs_go_on : RunsGoOn
+pub runs_go_on : RunsMeetingAtPowerContinueAlike
 runs_go_on = run_on
 
-pub dispatches_go_on : DispatchesGoOn
+pub dispatches_go_on : DispatchesMeetingAtPowerContinueAlike
 dispatches_go_on g π first other k f d v unit from low within front there dispatch =
     dispatch_on g π first other k f d v from low within front there unit dispatch
 

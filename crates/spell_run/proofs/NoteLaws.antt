@@ -3,7 +3,8 @@
 use Rattle.spell_run.proofs.Common
 use Common.{bounded, signed, ◌≡◌, ℕ, zero, suc, ◌-◌, ◌<◌, ◌≤◌, ltb, eqb, ◌⊎◌, inl, inr, ℤ, pos, ◌+ℤ◌, ◌-ℤ◌, ◌≤ℤ◌}
 use Common.{Bool, false, length, Some, sym, ap, ◌∙◌, subst, arith, option_map, int_min, int_max, by_lt_z}
-use Common.{EnvelopeIsCost, reserve_term, IsPoint, IsLeast, IsLeastIn, Reaches, same_some, Table, value_of, Step}
+use Common.{EnvelopeIsWithinCostLimit, reserve_term, IsPoint, IsLeast, IsLeastIn, Reaches, same_some, Table, value_of}
+use Common.{Step}
 use Common.{IsBottom, IsTurn, IsFirst, IsLast, ThermalUnit, PriceLists, Schedule, IsOutput, IsThermalUnit, ArePrices}
 use Common.{int_at, Lowest, Note, IsOnFromTo, IsSameOutside, IsFrontier, IsWritten, IsChosen, IsWayFrom, best_reserve}
 use Common.{IsNoted, IsSpellNoted, IsCheapest, IsBestDispatch, IsFirstDispatch, spell_cost, cap_at, step_at, level}
@@ -178,7 +179,7 @@ module _ {g : ThermalUnit} {π : PriceLists} {first k : ℕ} (unit : IsThermalUn
         (onward_end unit prices noted.is_curve within from noted.frontier step d least) (rw e at chosen)
 
     -- an earlier one
-    pub way_more : {last : ℕ} (noted : IsNoted g π first k false n after) → EnvelopeIsCost → suc k < last →
+    pub way_more : {last : ℕ} (noted : IsNoted g π first k false n after) → EnvelopeIsWithinCostLimit → suc k < last →
         {f : Table} → IsFrontier g π first (suc k) f → IsWayFrom g π first (suc k) last f d x cost →
         IsChosen (step_at g π k starts false) noted.before k x y d d' →
         IsWayFrom g π first k last noted.before d' y cost
@@ -192,7 +193,8 @@ module _ {g : ThermalUnit} {π : PriceLists} {first k : ℕ} (unit : IsThermalUn
         (onward_more from low (way_moved front next way)) choice
 
   -- the power that an earlier one is written for is one after the step
-  pub there_after : {n : Note} {after : Table} → IsNoted g π first k false n after → EnvelopeIsCost → {last : ℕ}
+  pub there_after : {n : Note} {after : Table} → IsNoted g π first k false n after → EnvelopeIsWithinCostLimit →
+      {last : ℕ}
       {f : Table} {d : Schedule} {x cost : ℤ} → IsFrontier g π first (suc k) f →
       IsWayFrom g π first (suc k) last f d x cost → (v : ℤ) × (value_of after x ≡ Some v)
   there_after noted law {x = x} front way =
@@ -285,7 +287,7 @@ module _ {g : ThermalUnit} {π : PriceLists} {first k last : ℕ} (unit : IsTher
   }
 
   -- an earlier one
-  pub written_more : {old : Schedule} (noted : IsNoted g π first k false n after) → EnvelopeIsCost →
+  pub written_more : {old : Schedule} (noted : IsNoted g π first k false n after) → EnvelopeIsWithinCostLimit →
       suc k < last → IsWrittenFrom g π first (suc k) last old d x →
       IsChosen (step_at g π k (eqb first (suc k)) false) noted.before k x y d d' →
       IsWrittenFrom g π first k last old d' y

@@ -1,8 +1,9 @@
 -- The best reserve for given powers.
 use Rattle.spell_run.proofs.Common
 use Common.{bounded, signed, ◌≡◌, ℤ, pos, ◌+ℤ◌, ◌-ℤ◌, ◌*ℤ◌, ◌≤ℤ◌, true, false, cond, ap, ◌<ℤ◌, int_lt, int_min}
-use Common.{by_lt_z, zero-*ℤ, *ℤ-one, mul-sub, mul-mono_of, most_reserve, best_reserve, IsReserve, ReserveIsAKink}
-use Common.{ReserveIsBest}
+use Common.{by_lt_z, zero-*ℤ, *ℤ-one, mul-sub, mul-mono_of, most_reserve, best_reserve, IsReserve}
+use Common.{ReserveEarningsHaveAKink}
+use Common.{MostReserveIsBest}
 
 pub positive_is : (a : ℤ) → pos 0 <ℤ a → int_lt (pos 0) a ≡ true
 positive_is a h = grind signed
@@ -13,7 +14,7 @@ not_positive_is a h = grind signed
 min_less : (cap up q p : ℤ) → most_reserve cap up q p ≡ int_min cap (up +ℤ q) -ℤ p
 min_less cap up q p = omega bounded
 
-pub reserve_is_a_kink : ReserveIsAKink
+pub reserve_is_a_kink : ReserveEarningsHaveAKink
 reserve_is_a_kink price cap up q p =
     let e = ap (λ z. price *ℤ z) (min_less cap up q p) in
     let f = mul-sub price (int_min cap (up +ℤ q)) p in
@@ -77,7 +78,7 @@ product_tells price r s h low e =
     absurd (omega signed))
     (λ same. omega signed)
 
-pub reserve_is_best : ReserveIsBest
+pub reserve_is_best : MostReserveIsBest
 reserve_is_best price cap up q p r h may =
     record {
       may = best_may price cap up q p (omega signed) (omega signed);

@@ -2,7 +2,8 @@
 -- cheaper.
 use Rattle.spell_run.proofs.Common
 use Common.{◌≡◌, ℕ, ℤ, pos, neg_ℤ, ◌+ℤ◌, ◌-ℤ◌, ◌*ℤ◌, ◌≤ℤ◌, Bool, true, false, Some, refl, ap, ◌∙◌, subst, IsTrue}
-use Common.{option_map, int_min, bounded, signed, *ℤ_comm, IsCostCurve, AreCostPoints, EnvelopeIsCost, curve_value}
+use Common.{option_map, int_min, bounded, signed, *ℤ_comm, IsCostCurve, AreCostPoints, EnvelopeIsWithinCostLimit}
+use Common.{curve_value}
 use Common.{reserve_term, same_some, Table, value_of, Curve, ThermalUnit, PriceLists, envelope, IsFrom, IsThermalUnit}
 use Common.{Spans, int_at, mul-sub, IsWithin, product_within, most_reserve, best_reserve, IsReserve, net_cost_at}
 use Common.{cap_at, step_at, IsMove, IsStepped}
@@ -172,7 +173,7 @@ module _ {g : ThermalUnit} (π : PriceLists) (k : ℕ) {c : Curve} (unit : IsThe
             cc
 
   -- what a move costs is far within the limits
-  pub net_within : {starts stops : Bool} {q x r : ℤ} → EnvelopeIsCost →
+  pub net_within : {starts stops : Bool} {q x r : ℤ} → EnvelopeIsWithinCostLimit →
       IsFrom (neg_ℤ (pos 10000000)) (pos 10000000) (int_at π.energy k) → int_at π.reserve k ≤ℤ pos 10000000 →
       IsMove g starts stops q x r → pos 0 ≤ℤ r → IsWithin 1000000000000000 (net_cost_at g π k x r)
   net_within {starts = starts} {stops = stops} {x = x} {r = r} law energy high move kept =

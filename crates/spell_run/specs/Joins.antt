@@ -28,15 +28,15 @@ pub record IsDispatchOn (g : ThermalUnit) (π : PriceLists) (other k : ℕ) (d :
   pub cost : spell_cost g π other (suc k) dispatch ≡ v +ℤ net_cost g π d (suc k)
 
 -- f has a value where d is at the end of period k, so its run goes on as d does
-abbrev pub RunsGoOn : Type 0
-RunsGoOn =
+abbrev pub RunsMeetingAtPowerContinueAlike : Type 0
+RunsMeetingAtPowerContinueAlike =
     (g : ThermalUnit) (π : PriceLists) (first other k : ℕ) (f : Table) (d : Schedule) (v : ℤ) →
     first ≤ suc k → other ≤ k → k < length π.energy →
     IsFrontier g π other k f → value_of f (level g first d k) ≡ Some v → IsRun g first (suc k) d →
     IsRunOn g π first other k d v
 
-abbrev pub DispatchesGoOn : Type 0
-DispatchesGoOn =
+abbrev pub DispatchesMeetingAtPowerContinueAlike : Type 0
+DispatchesMeetingAtPowerContinueAlike =
     (g : ThermalUnit) (π : PriceLists) (first other k : ℕ) (f : Table) (d : Schedule) (v : ℤ) →
     IsThermalUnit g → first ≤ suc k → other ≤ k → k < length π.energy →
     IsFrontier g π other k f → value_of f (level g first d k) ≡ Some v →

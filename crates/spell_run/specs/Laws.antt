@@ -19,8 +19,8 @@ pub record IsReserve (cap up q p r : ℤ) : Type 0 where
   pub ramp : ((p +ℤ r) -ℤ q) ≤ℤ up
 
 -- what the most reserve earns is a line in the power p and a kink in the power q before it
-abbrev pub ReserveIsAKink : Type 0
-ReserveIsAKink =
+abbrev pub ReserveEarningsHaveAKink : Type 0
+ReserveEarningsHaveAKink =
     (price cap up q p : ℤ) →
     price *ℤ most_reserve cap up q p ≡ neg_ℤ (price *ℤ p) +ℤ (price *ℤ int_min cap (up +ℤ q))
 
@@ -34,7 +34,7 @@ pub record IsBestReserve (price cap up q p r : ℤ) : Type 0 where
   pub only : pos 0 <ℤ price → price *ℤ r ≡ price *ℤ best_reserve price cap up q p →
       r ≡ best_reserve price cap up q p
 
-abbrev pub ReserveIsBest : Type 0
-ReserveIsBest =
+abbrev pub MostReserveIsBest : Type 0
+MostReserveIsBest =
     (price cap up q p r : ℤ) → pos 0 ≤ℤ price → IsReserve cap up q p r →
     IsBestReserve price cap up q p r

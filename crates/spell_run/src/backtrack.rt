@@ -17,10 +17,10 @@ ghost use Rattle.spell_run.specs.Steps.{step_at, IsFairStep};
 ghost use Rattle.uc_model.specs.Limits.{IsOutput};
 ghost use Rattle.uc_model.specs.PlainUnits.{thermal_of, prices_of, schedule_of};
 
-use crate::notes::{Logged, Note, Trace, first_entries};
-use crate::step::{Step, starts_in_period, step_over_period};
-use crate::write::write_best_reserve;
-use cost_curve::laws::envelope_is_cost;
+use crate::notes::{Logged, Note, Trace, first_log_entries_of_spell};
+use crate::step::{Step, starts_in_period, step_terms_of_period};
+use crate::write::write_period_with_best_reserve;
+use cost_curve::laws::envelope_is_within_cost_limit;
 use uc_model::units::{Answered, Prices, Unit};
 
 /// A period that backtracking visits.
@@ -46,7 +46,7 @@ pub struct SpellTrace<'a> {
 }
 
 /// The cheapest power before a step to a power, the least of those.
-fn cheapest_before(step: Step, note: Note, power: i64) -> i64
+fn cheapest_power_before_step(step: Step, note: Note, power: i64) -> i64
     requires step { IsFairStep step }
     requires power { IsOutput power }
     ensures { (f : Table) (v y w : ℤ) → IsTurn step f note.turn → IsFirst f note.first v
@@ -60,7 +60,13 @@ fn cheapest_before(step: Step, note: Note, power: i64) -> i64
 }
 
 /// Writes a period with its power, and answers the cheapest power before it.
-fn write_period(unit: &Unit, prices: &Prices, first: u32, visit: Visit, into: &mut Answered) -> i64
+fn write_period_and_find_power_before(
+    unit: &Unit,
+    prices: &Prices,
+    first: u32,
+    visit: Visit,
+    into: &mut Answered,
+) -> i64
     requires index { visit.index < length (prices_of prices.now).energy }
     requires order { first ≤ suc visit.index }
     requires noted { (after : Table)
@@ -79,15 +85,15 @@ fn write_period(unit: &Unit, prices: &Prices, first: u32, visit: Visit, into: &m
     ensures earned { into.new.earned ≡ into.old.earned }
 {
     let index = visit.index;
-    let step = step_over_period(
+    let step = step_terms_of_period(
         unit,
         prices,
         index,
         starts_in_period(first, index),
         visit.stops,
     );
-    let before = cheapest_before(step, visit.note, visit.power);
-    write_best_reserve(into, index, step, before, visit.power);
+    let before = cheapest_power_before_step(step, visit.note, visit.power);
+    write_period_with_best_reserve(into, index, step, before, visit.power);
     before
 }
 
@@ -96,7 +102,7 @@ fn write_period(unit: &Unit, prices: &Prices, first: u32, visit: Visit, into: &m
 /// from the last period back, less power first, and then by reserves. `first` 0 stands for a spell
 /// that goes on from before period 1. All other periods, and what is earned, stay. Prices and `into`
 /// are over the same periods. Takes no memory.
-pub fn write_spell(
+pub fn write_least_cost_dispatch_of_spell(
     unit: &Unit,
     prices: &Prices,
     first: u32,
@@ -123,7 +129,7 @@ pub fn write_spell(
         (schedule_of into.new.response) }
     ensures earned { into.new.earned ≡ into.old.earned }
 {
-    let trace = first_entries(left.log, left.trace, last - first.saturating_sub(1));
+    let trace = first_log_entries_of_spell(left.log, left.trace, last - first.saturating_sub(1));
     let entry = left.log[trace.last as usize];
     let Some(lowest) = entry.passed.end else {
         return;
@@ -134,7 +140,7 @@ pub fn write_spell(
         last: entry.passed.note.last,
     };
     let end = last as usize - 1;
-    envelope_is_cost();
+    envelope_is_within_cost_limit();
     let stops = (last as usize) < prices.energy.len();
     let visit = Visit {
         index: end,
@@ -142,7 +148,7 @@ pub fn write_spell(
         note,
         power: lowest.at,
     };
-    let mut power = write_period(unit, prices, first, visit, into);
+    let mut power = write_period_and_find_power_before(unit, prices, first, visit, into);
     let mut at = entry.before;
     for back in 1..last + 1 - first.max(1) {
         let entry = left.log[at as usize];
@@ -152,7 +158,7 @@ pub fn write_spell(
             note: entry.passed.note,
             power,
         };
-        power = write_period(unit, prices, first, visit, into);
+        power = write_period_and_find_power_before(unit, prices, first, visit, into);
         at = entry.before;
     }
 }

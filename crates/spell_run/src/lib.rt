@@ -12,6 +12,8 @@ mod running;
 pub mod step;
 pub mod write;
 
-pub use backtrack::{SpellTrace, write_spell};
+pub use backtrack::{SpellTrace, write_least_cost_dispatch_of_spell};
 pub use notes::{Log, Logged, Note, Passage, Passed, Trace};
-pub use running::{begin_spell, run_over_and_end, run_over_period};
+pub use running::{
+    advance_spell_and_find_end_cost, advance_spell_over_period, begin_spell_cost_function,
+};

@@ -67,7 +67,7 @@ impl Trace {
 }
 
 /// Leaves one entry more of a spell, for which the log has memory, and answers all of the spell.
-pub fn log_entry(log: &mut Log, trace: Trace, passed: Passed) -> Trace
+pub fn push_spell_log_entry(log: &mut Log, trace: Trace, passed: Passed) -> Trace
     requires spare { 1 ≤ log.old.spare }
     requires small { length log.old.items < 2 ^ 32 }
     requires few { suc trace.count < 2 ^ 32 }
@@ -94,7 +94,7 @@ pub fn log_entry(log: &mut Log, trace: Trace, passed: Passed) -> Trace
 }
 
 /// The first entries of a spell in a log, so many of them.
-pub(crate) fn first_entries(log: &[Logged], trace: Trace, count: u32) -> Trace
+pub(crate) fn first_log_entries_of_spell(log: &[Logged], trace: Trace, count: u32) -> Trace
     requires trace { IsTrace log.now trace }
     requires fewer { count ≤ trace.count }
     ensures trace { IsTrace log.now result }

@@ -12,8 +12,8 @@ ghost use Rattle.uc_model.specs.Data.{PriceLists};
 ghost use Rattle.uc_model.specs.PlainUnits.{thermal_of, prices_of};
 
 use crate::notes::{Note, Passage, Passed};
-use crate::step::{differs_in_range_alone, starts_in_period, step_over_period};
-use cost_curve::laws::envelope_is_cost;
+use crate::step::{are_steps_same_but_for_power_range, starts_in_period, step_terms_of_period};
+use cost_curve::laws::envelope_is_within_cost_limit;
 use slope_list::{Lowest, Slopes, Spare, Spot};
 use uc_model::units::{Curve, Prices, Unit};
 
@@ -25,7 +25,7 @@ struct Interval {
 }
 
 /// The power that the first ramp of a spell is measured from.
-fn power_before(unit: &Unit, first: u32) -> i64
+fn power_before_spell(unit: &Unit, first: u32) -> i64
     ensures start { 1 ≤ first → result ≡ unit.now.min_power }
     ensures goes_on { first ≡ 0 → result ≡ unit.now.power0 }
 {
@@ -38,13 +38,13 @@ fn power_before(unit: &Unit, first: u32) -> i64
 
 /// Begins a spell: at the power that its first ramp is measured from, at no cost. `first` 0 stands
 /// for a spell that goes on from before period 1.
-pub fn begin_spell(unit: &Unit, first: u32, running: &mut Slopes)
+pub fn begin_spell_cost_function(unit: &Unit, first: u32, running: &mut Slopes)
     ensures frontier { (π : PriceLists)
         → IsFrontier (thermal_of unit.now) π first (first - 1) (shown running.new) }
     ensures count { count_of running.new ≡ 0 }
     ensures room { room_of running.new ≡ room_of running.old }
 {
-    running.restart(power_before(unit, first), 0);
+    running.reset_to_single_power(power_before_spell(unit, first), 0);
 }
 
 /// The first and the last power of a function; both are 0 on an empty interval.
@@ -69,7 +69,7 @@ fn power_interval(running: &Slopes) -> Interval
 /// leaves for backtracking, which is open where no power is left. `curve` is the curve of the unit's
 /// points.
 #[inline(always)]
-pub fn run_over_period(
+pub fn advance_spell_over_period(
     unit: &Unit,
     curve: &Curve,
     prices: &Prices,
@@ -91,12 +91,12 @@ pub fn run_over_period(
     ensures grown { IsGrown (length curve.now.blocks.items + 3) running.old running.new spare.old
         spare.new }
 {
-    envelope_is_cost();
+    envelope_is_within_cost_limit();
     let Passage { first, index } = passage;
     let starts = starts_in_period(first, index);
     let before = power_interval(running);
     running.step(
-        step_over_period(unit, prices, index, starts, false),
+        step_terms_of_period(unit, prices, index, starts, false),
         curve,
         spare,
     );
@@ -108,7 +108,7 @@ pub fn run_over_period(
 }
 
 /// A least value of a function after a step with this turn.
-fn lowest_at_turn(spot: Option<Spot>, turn: i64) -> Option<Lowest>
+fn least_value_with_turning_power(spot: Option<Spot>, turn: i64) -> Option<Lowest>
     ensures none { IfNone result (spot ≡ None) }
     ensures some { IfSome result (λ r. (spot ≡ Some (record { at = r.at; value = r.value }))
         × (r.turn ≡ turn)) }
@@ -123,14 +123,14 @@ fn lowest_at_turn(spot: Option<Spot>, turn: i64) -> Option<Lowest>
     }
 }
 
-/// Takes a spell over the period at an index, as `run_over_period` does, and answers what it leaves for the
+/// Takes a spell over the period at an index, as `advance_spell_over_period` does, and answers what it leaves for the
 /// way back, with the least net cost of the spells that end with the period, with a stop after it
 /// where the prices go on; None exactly where no dispatch is there.
 ///
 /// A stop after the period lowers its cap. Where it doesn't, or where reserve isn't paid for, the
 /// costs up to a stop are those of the function itself at the powers that a stop allows; otherwise
 /// they are found beside it.
-pub fn run_over_and_end(
+pub fn advance_spell_and_find_end_cost(
     unit: &Unit,
     curve: &Curve,
     prices: &Prices,
@@ -157,22 +157,25 @@ pub fn run_over_and_end(
     ensures grown { IsGrown (length curve.now.blocks.items + 3) running.old running.new spare.old
         spare.new }
 {
-    envelope_is_cost();
+    envelope_is_within_cost_limit();
     let Passage { first, index } = passage;
     if index + 1 == prices.energy.len() {
-        let note = run_over_period(unit, curve, prices, passage, running, spare);
-        let end = lowest_at_turn(running.least(), note.turn);
+        let note = advance_spell_over_period(unit, curve, prices, passage, running, spare);
+        let end = least_value_with_turning_power(running.least(), note.turn);
         return Passed { note, end };
     }
     let starts = starts_in_period(first, index);
-    let on = step_over_period(unit, prices, index, starts, false);
-    let last = step_over_period(unit, prices, index, starts, true);
-    if differs_in_range_alone(on, last) {
-        let note = run_over_period(unit, curve, prices, passage, running, spare);
-        let end = lowest_at_turn(running.least_in(last.least, last.most), note.turn);
+    let on = step_terms_of_period(unit, prices, index, starts, false);
+    let last = step_terms_of_period(unit, prices, index, starts, true);
+    if are_steps_same_but_for_power_range(on, last) {
+        let note = advance_spell_over_period(unit, curve, prices, passage, running, spare);
+        let end = least_value_with_turning_power(
+            running.least_in(last.least, last.most),
+            note.turn,
+        );
         return Passed { note, end };
     }
-    let end = running.least_beside(last, curve, spare);
-    let note = run_over_period(unit, curve, prices, passage, running, spare);
+    let end = running.least_value_if_stepped(last, curve, spare);
+    let note = advance_spell_over_period(unit, curve, prices, passage, running, spare);
     Passed { note, end }
 }

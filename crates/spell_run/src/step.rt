@@ -20,7 +20,7 @@ pub(crate) fn starts_in_period(first: u32, index: usize) -> bool
 }
 
 /// The greatest power with reserve in a period where the unit starts, or stops after it.
-fn cap_in_period(unit: &Unit, starts: bool, stops: bool) -> i64
+fn power_and_reserve_cap_in_period(unit: &Unit, starts: bool, stops: bool) -> i64
     ensures { result ≡ cap_at (thermal_of unit.now) starts stops }
 {
     cap(unit, starts, stops) + unit.min_power
@@ -40,7 +40,7 @@ fn greatest_power_in_period(unit: &Unit, cap: i64, stops: bool) -> i64
 
 /// The step over the period at an index of the horizon, where the unit starts in it, or stops after
 /// it.
-pub fn step_over_period(
+pub fn step_terms_of_period(
     unit: &Unit,
     prices: &Prices,
     index: usize,
@@ -52,7 +52,7 @@ pub fn step_over_period(
         stops }
     ensures fair { IsFairStep result }
 {
-    let cap = cap_in_period(unit, starts, stops);
+    let cap = power_and_reserve_cap_in_period(unit, starts, stops);
     let energy_price = *prices.energy.get(index);
     let reserve_price = *prices.reserve.get(index);
     Step {
@@ -68,7 +68,7 @@ pub fn step_over_period(
 
 /// Whether a step before a stop differs from one without in the range of the power alone: reserve
 /// isn't paid for, or the cap is the same.
-pub fn differs_in_range_alone(on: Step, last: Step) -> bool
+pub fn are_steps_same_but_for_power_range(on: Step, last: Step) -> bool
     ensures { OnTrue result ((on.reserve_price ≡ pos 0) ⊎ (last.cap ≡ on.cap)) }
 {
     on.reserve_price == 0 || last.cap == on.cap

@@ -10,7 +10,7 @@ use slope_list::step_terms::Step;
 use uc_model::units::Answered;
 
 /// The best reserve at a power after another.
-fn reserve_after_power(step: Step, before: i64, power: i64) -> i64
+fn best_reserve_after_power(step: Step, before: i64, power: i64) -> i64
     requires step { IsFairStep step }
     requires before { IsOutput before }
     requires power { IsOutput power }
@@ -38,7 +38,13 @@ fn write_on_period(into: &mut Answered, index: usize, power: u32, reserve: u32)
 }
 
 /// Writes a period with its power, and the best reserve after the power before it.
-pub fn write_best_reserve(into: &mut Answered, index: usize, step: Step, before: i64, power: i64)
+pub fn write_period_with_best_reserve(
+    into: &mut Answered,
+    index: usize,
+    step: Step,
+    before: i64,
+    power: i64,
+)
     requires index { index < length (schedule_of into.old.response).on }
     requires step { IsFairStep step }
     requires before { IsOutput before }
@@ -50,6 +56,6 @@ pub fn write_best_reserve(into: &mut Answered, index: usize, step: Step, before:
         (schedule_of into.old.response) (schedule_of into.new.response) }
     ensures earned { into.new.earned ≡ into.old.earned }
 {
-    let reserve = reserve_after_power(step, before, power);
+    let reserve = best_reserve_after_power(step, before, power);
     write_on_period(into, index, power as u32, reserve as u32);
 }

@@ -8,7 +8,7 @@ use Rattle.std.proofs.lemmas.Int.{ints}
 use Rattle.std.proofs.lemmas.List.Sums.{sum_by-cons}
 use Rattle.plain_lists.specs.Sums.{total, sum_below}
 use Rattle.plain_lists.proofs.ListLaws.{map-append, total-append}
-use Rattle.task_deal.specs.Laws.{SumsAreDealt, NumbersAreDealt}
+use Rattle.task_deal.specs.Laws.{SumsOverJobsEqualSumOverTasks, JobsRanExactlyTheTasks}
 use Rattle.task_deal.proofs.Orders.{permutes}
 use Rattle.task_deal.proofs.Places.{split_le}
 use Rattle.task_deal.proofs.Running.{weighs}
@@ -92,7 +92,7 @@ total_concat f (xs ∷ lists) =
       total-append (map f xs) (map f (concat lists)),
     )
 
-pub sums_are_dealt : SumsAreDealt
+pub sums_are_dealt : SumsOverJobsEqualSumOverTasks
 sums_are_dealt tasks numbers f order = sym (total_concat f numbers) ∙
     (same_total f (below tasks) (concat numbers) order ∙ total_below tasks f)
 
@@ -125,7 +125,7 @@ only_below (suc k) n has = ⊎_elim
     (λ (e : k ≡ n). omega (arith, e))
     (Contains-push_cases (below k) k n has)
 
-pub numbers_are_dealt : NumbersAreDealt
+pub numbers_are_dealt : JobsRanExactlyTheTasks
 numbers_are_dealt tasks numbers n order = (
   (λ less. Contains-permutation (below tasks) (concat numbers) n order (below_has tasks n less)),
   (λ has. only_below tasks n (Contains-permutation (concat numbers) (below tasks) n

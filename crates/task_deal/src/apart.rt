@@ -10,7 +10,7 @@ use crate::seat::Seat;
 
 /// Puts jobs, deques and purses on lists of their own, in the other order. The accounts of the
 /// source are joined.
-pub(crate) fn split_members<J: Drop>(
+pub(crate) fn unzip_members_into_parts<J: Drop>(
     source: &Source,
     owner: &mut SourcePass,
     members: Vec<Member<J>>,

@@ -5,14 +5,14 @@ ghost use Rattle.plain_lists.specs.declared.limits.TheConstants.{MOST_UNITS};
 ghost use Rattle.task_deal.specs.Hands.{AreSetOut};
 ghost use Rattle.task_deal.specs.Jobs.{IsDealt};
 
-use crate::apart::{make_members, split_members};
-use crate::drain::{check_deques, run_numbers_left};
+use crate::apart::{make_members, unzip_members_into_parts};
+use crate::drain::{check_deque_counts, run_numbers_left};
 use crate::job::Job;
-use crate::member::{Member, work_all};
-use crate::open::{fill_purses, open_deques};
-use crate::pour::pour_source;
+use crate::member::{Member, run_members_in_threads};
+use crate::open::{make_steal_permissions_of_all, open_deques};
+use crate::pour::make_shared_queue_of_tasks;
 use crate::rule::{Deque, Shared, SourcePass, ThiefPass};
-use crate::settle::settle_purses;
+use crate::settle::return_steal_permissions_of_all;
 use std::alloc::{AllocError, Global};
 use std::sync::Wait;
 use std::thread::Threads;
@@ -31,7 +31,7 @@ struct Hands {
 }
 
 // The numbers below `tasks` in the source, and a deque and a purse for each of `count` jobs.
-fn set_out_numbers<R: Wait>(
+fn prepare_task_queues<R: Wait>(
     rt: &R,
     alloc: Global,
     tasks: u32,
@@ -39,10 +39,10 @@ fn set_out_numbers<R: Wait>(
 ) -> Result<(Shared, Hands), AllocError>
     ensures { IfOk result (λ made. AreSetOut made.0 tasks count made.1) }
 {
-    let (source, owner) = pour_source(rt, alloc, tasks)?;
+    let (source, owner) = make_shared_queue_of_tasks(rt, alloc, tasks)?;
     let (mut owns, thieves) = open_deques(alloc, count)?;
     let shared = Shared { source, thieves };
-    let purses = fill_purses(alloc, &shared, &mut owns, count)?;
+    let purses = make_steal_permissions_of_all(alloc, &shared, &mut owns, count)?;
     let hands = Hands {
         owner,
         owns,
@@ -81,8 +81,8 @@ fn run_members<J: Job + Send + Drop, R: Threads + Wait + Sync>(
         &mut purses,
         &mut members,
     );
-    work_all(rt, shared, tasks, &mut members);
-    split_members(
+    run_members_in_threads(rt, shared, tasks, &mut members);
+    unzip_members_into_parts(
         &shared.source,
         &mut owner,
         members,
@@ -90,8 +90,8 @@ fn run_members<J: Job + Send + Drop, R: Threads + Wait + Sync>(
         &mut owns,
         &mut purses,
     );
-    settle_purses(shared, &mut owns, purses);
-    check_deques(shared, &mut owns);
+    return_steal_permissions_of_all(shared, &mut owns, purses);
+    check_deque_counts(shared, &mut owns);
     run_numbers_left(rt, shared, tasks, &mut owner, &mut owns, jobs);
 }
 
@@ -121,7 +121,7 @@ pub fn deal_all<J: Job + Send + Drop, R: Threads + Wait + Sync>(
 {
     let count = jobs.len();
     let members = Vec::with_capacity(alloc, count)?;
-    let (shared, hands) = set_out_numbers(rt, alloc, tasks, count)?;
+    let (shared, hands) = prepare_task_queues(rt, alloc, tasks, count)?;
     // Nothing may fail from here on.
     run_members(rt, &shared, tasks, hands, members, jobs);
     Ok(())

@@ -17,7 +17,7 @@ use std::sync::Wait;
 use std::thread;
 
 // Of the deque at an index no more were taken than were put.
-fn check_deque_at(shared: &Shared, owns: &mut Vec<Deque>, at: usize)
+fn check_deque_counts_at(shared: &Shared, owns: &mut Vec<Deque>, at: usize)
     requires at { at < length owns.old.items }
     requires stands { let last = length owns.old.items in
         Each (Stands shared.now.thieves.items 0) 0 last owns.old.items }
@@ -32,7 +32,7 @@ fn check_deque_at(shared: &Shared, owns: &mut Vec<Deque>, at: usize)
 }
 
 /// Of no deque more was taken than was put.
-pub(crate) fn check_deques(shared: &Shared, owns: &mut Vec<Deque>)
+pub(crate) fn check_deque_counts(shared: &Shared, owns: &mut Vec<Deque>)
     requires stands { let last = length owns.old.items in
         Each (Stands shared.now.thieves.items 0) 0 last owns.old.items }
     ensures count { length owns.new.items ≡ length owns.old.items }
@@ -42,12 +42,12 @@ pub(crate) fn check_deques(shared: &Shared, owns: &mut Vec<Deque>)
     ensures fits { All (λ w. Fits (worker_view w)) owns.new.items }
 {
     for at in 0..owns.len() {
-        check_deque_at(shared, owns, at);
+        check_deque_counts_at(shared, owns, at);
     }
 }
 
 /// Runs what a deque still has.
-fn drain_own<J: Job, R: Wait>(rt: &R, own: &mut Deque, job: &mut J)
+fn run_tasks_left_in_deque<J: Job, R: Wait>(rt: &R, own: &mut Deque, job: &mut J)
     requires own { (worker_port own.old ≡ 0) × (worker_flavor own.old ≡ 0)
         × ((worker_view own.old).parts ≡ 0) }
     requires room { let v = worker_view own.old in
@@ -67,7 +67,12 @@ fn drain_own<J: Job, R: Wait>(rt: &R, own: &mut Deque, job: &mut J)
 }
 
 /// Runs what the source still has.
-fn drain_source<J: Job, R: Wait>(rt: &R, source: &Source, pass: &mut SourcePass, job: &mut J)
+fn run_tasks_left_in_shared_queue<J: Job, R: Wait>(
+    rt: &R,
+    source: &Source,
+    pass: &mut SourcePass,
+    job: &mut J,
+)
     requires pass { IsInjectorPassOf source.now pass.old × (pass.old.id ≡ 0)
         × ((injector_view pass.old).parts ≡ 0) }
     requires room { let v = injector_view pass.old in
@@ -88,7 +93,7 @@ fn drain_source<J: Job, R: Wait>(rt: &R, source: &Source, pass: &mut SourcePass,
     unreachable!()
 }
 
-fn drain_deque_at<J: Job, R: Wait>(
+fn run_tasks_left_in_deque_at<J: Job, R: Wait>(
     rt: &R,
     shared: &Shared,
     tasks: u32,
@@ -108,10 +113,10 @@ fn drain_deque_at<J: Job, R: Wait>(
     ensures even { Each (λ _ w. IsEmptied w) 0 at owns.old.items →
         Each (λ _ w. IsEmptied w) 0 (at + 1) owns.new.items }
 {
-    drain_own(rt, &mut owns[at], &mut jobs[0]);
+    run_tasks_left_in_deque(rt, &mut owns[at], &mut jobs[0]);
 }
 
-fn drain_first<J: Job, R: Wait>(
+fn run_shared_queue_by_first_job<J: Job, R: Wait>(
     rt: &R,
     shared: &Shared,
     tasks: u32,
@@ -131,7 +136,7 @@ fn drain_first<J: Job, R: Wait>(
         Holds first jobs.old.items (injector_view owner.old) owns.now.items →
         Holds first jobs.new.items (injector_view owner.new) owns.now.items }
 {
-    drain_source(rt, &shared.source, owner, &mut jobs[0]);
+    run_tasks_left_in_shared_queue(rt, &shared.source, owner, &mut jobs[0]);
 }
 
 /// The first job runs all that the threads left. Then the numbers are dealt to the jobs as they
@@ -154,8 +159,8 @@ pub(crate) fn run_numbers_left<J: Job, R: Wait>(
         (injector_view owner.old) owns.old.items →
         IsDealt J.work J.runs J.spare tasks first jobs.new.items }
 {
-    drain_first(rt, shared, tasks, owner, owns, jobs);
+    run_shared_queue_by_first_job(rt, shared, tasks, owner, owns, jobs);
     for at in 0..owns.len() {
-        drain_deque_at(rt, shared, tasks, owns, jobs, at);
+        run_tasks_left_in_deque_at(rt, shared, tasks, owns, jobs, at);
     }
 }

@@ -6,7 +6,7 @@ ghost use Rattle.task_deal.specs.Members.{HasWorked};
 use crate::job::Job;
 use crate::rule::Shared;
 use crate::seat::{Seat, next_number};
-use crate::start::sleep_a_moment;
+use crate::start::sleep_before_first_task;
 use std::sync::Wait;
 use std::thread;
 use std::thread::Threads;
@@ -31,7 +31,7 @@ fn work_as_member<J: Job, R: Wait>(
     requires spare { tasks ≤ J.spare member.old.job }
     ensures { HasWorked shared.now J.work J.runs J.spare member.old member.new }
 {
-    sleep_a_moment(rt, members);
+    sleep_before_first_task(rt, members);
     for done in 0..tasks {
         let Some(task) = next_number(rt, shared, &mut member.seat, done == 0) else {
             return;
@@ -41,7 +41,7 @@ fn work_as_member<J: Job, R: Wait>(
 }
 
 /// All members at once, each in a thread of its own where one can be made.
-pub(crate) fn work_all<J: Job + Send, R: Threads + Wait + Sync>(
+pub(crate) fn run_members_in_threads<J: Job + Send, R: Threads + Wait + Sync>(
     rt: &R,
     shared: &Shared,
     tasks: u32,

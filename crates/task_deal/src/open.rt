@@ -31,7 +31,12 @@ pub(crate) fn open_deques(
 }
 
 // A pass with one part, of the deque at an index. Before it each deque has one part more out.
-fn fork_pass_at(shared: &Shared, owns: &mut Vec<Deque>, out: usize, at: usize) -> ThiefPass
+fn split_steal_permission_at(
+    shared: &Shared,
+    owns: &mut Vec<Deque>,
+    out: usize,
+    at: usize,
+) -> ThiefPass
     requires at { at < length shared.now.thieves.items }
     requires count { length owns.old.items ≡ length shared.now.thieves.items }
     requires low { Each (Stands shared.now.thieves.items (out + 1)) 0 at owns.old.items }
@@ -49,7 +54,7 @@ fn fork_pass_at(shared: &Shared, owns: &mut Vec<Deque>, out: usize, at: usize) -
 }
 
 // A purse with a pass for each deque.
-fn fill_purse(
+fn make_steal_permissions_of_worker(
     alloc: Global,
     shared: &Shared,
     owns: &mut Vec<Deque>,
@@ -67,14 +72,14 @@ fn fill_purse(
 {
     let mut purse = Vec::new(alloc);
     for at in 0..shared.thieves.len() {
-        let pass = fork_pass_at(shared, owns, out, at);
+        let pass = split_steal_permission_at(shared, owns, out, at);
         purse.push(pass)?;
     }
     Ok(purse)
 }
 
 /// A purse for each worker.
-pub(crate) fn fill_purses(
+pub(crate) fn make_steal_permissions_of_all(
     alloc: Global,
     shared: &Shared,
     owns: &mut Vec<Deque>,
@@ -93,7 +98,7 @@ pub(crate) fn fill_purses(
 {
     let mut purses = Vec::new(alloc);
     for out in 0..count {
-        let purse = fill_purse(alloc, shared, owns, out)?;
+        let purse = make_steal_permissions_of_worker(alloc, shared, owns, out)?;
         purses.push(purse)?;
     }
     Ok(purses)

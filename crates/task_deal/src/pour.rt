@@ -9,7 +9,7 @@ use std::alloc::{AllocError, Global};
 use std::sync::Wait;
 
 /// A source of the numbers below `tasks`.
-pub(crate) fn pour_source<R: Wait>(
+pub(crate) fn make_shared_queue_of_tasks<R: Wait>(
     rt: &R,
     alloc: Global,
     tasks: u32,

@@ -37,7 +37,7 @@ fn pop_own(shared: &Shared, seat: &mut Seat) -> Option<u32>
 
 // Takes one number, and moves a batch of further ones to the own deque. Where there is no memory
 // for the batch, it takes one number alone.
-fn fetch_number<R: Wait>(rt: &R, shared: &Shared, seat: &mut Seat) -> Steal<u32>
+fn steal_batch_from_shared_queue<R: Wait>(rt: &R, shared: &Shared, seat: &mut Seat) -> Steal<u32>
     requires { IsSeatOf shared.now seat.old }
     ensures same { IsSeatOf shared.now seat.new × SameDeque seat.old seat.new }
     ensures gains { FoundIn result seat.old seat.new }
@@ -92,7 +92,7 @@ fn steal_any<R: Wait>(rt: &R, shared: &Shared, seat: &mut Seat) -> Option<u32>
 }
 
 /// One number of the source alone.
-fn take_first<R: Wait>(rt: &R, shared: &Shared, seat: &mut Seat) -> Option<u32>
+fn steal_one_from_shared_queue<R: Wait>(rt: &R, shared: &Shared, seat: &mut Seat) -> Option<u32>
     requires { IsSeatOf shared.now seat.old }
     ensures same { IsSeatOf shared.now seat.new × SameDeque seat.old seat.new }
     ensures gains { Found result seat.old seat.new }
@@ -109,7 +109,7 @@ fn take_first<R: Wait>(rt: &R, shared: &Shared, seat: &mut Seat) -> Option<u32>
 
 /// A number of the own deque, or else of the source, from which a batch moves to the own deque, or
 /// else of another's deque.
-fn find_number<R: Wait>(rt: &R, shared: &Shared, seat: &mut Seat) -> Option<u32>
+fn find_number_in_queues<R: Wait>(rt: &R, shared: &Shared, seat: &mut Seat) -> Option<u32>
     requires { IsSeatOf shared.now seat.old }
     ensures same { IsSeatOf shared.now seat.new × SameDeque seat.old seat.new }
     ensures gains { Found result seat.old seat.new }
@@ -118,7 +118,7 @@ fn find_number<R: Wait>(rt: &R, shared: &Shared, seat: &mut Seat) -> Option<u32>
         if let Some(task) = pop_own(shared, seat) {
             return Some(task);
         }
-        match fetch_number(rt, shared, seat) {
+        match steal_batch_from_shared_queue(rt, shared, seat) {
             Steal::Success(task) => return Some(task),
             Steal::Empty => return steal_any(rt, shared, seat),
             Steal::Retry => thread::yield_now(),
@@ -140,9 +140,9 @@ pub(crate) fn next_number<R: Wait>(
     ensures gains { Found result seat.old seat.new }
 {
     if at_first {
-        if let Some(task) = take_first(rt, shared, seat) {
+        if let Some(task) = steal_one_from_shared_queue(rt, shared, seat) {
             return Some(task);
         }
     }
-    find_number(rt, shared, seat)
+    find_number_in_queues(rt, shared, seat)
 }

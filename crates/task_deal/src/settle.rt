@@ -7,7 +7,13 @@ ghost use Rattle.task_deal.specs.Rule.{sum_of};
 use crate::rule::{Cut, Deque, Shared, ThiefPass};
 
 // Takes one pass back into its deque, and after it each deque has one part less out.
-fn return_pass(shared: &Shared, owns: &mut Vec<Deque>, left: usize, at: usize, pass: ThiefPass)
+fn return_steal_permission(
+    shared: &Shared,
+    owns: &mut Vec<Deque>,
+    left: usize,
+    at: usize,
+    pass: ThiefPass,
+)
     requires at { at < length shared.now.thieves.items }
     requires count { length owns.old.items ≡ length shared.now.thieves.items }
     requires pass { (d : _) → IsPart (slice_index_or shared.now.thieves.items at d) pass }
@@ -24,7 +30,12 @@ fn return_pass(shared: &Shared, owns: &mut Vec<Deque>, left: usize, at: usize, p
 }
 
 // Takes a purse back into the deques.
-fn return_purse(shared: &Shared, owns: &mut Vec<Deque>, left: usize, purse: Vec<ThiefPass>)
+fn return_steal_permissions_of_worker(
+    shared: &Shared,
+    owns: &mut Vec<Deque>,
+    left: usize,
+    purse: Vec<ThiefPass>,
+)
     requires count { length owns.old.items ≡ length shared.now.thieves.items }
     requires purse { AreParts shared.now.thieves.items purse.items }
     requires owns { let last = length shared.now.thieves.items in
@@ -37,12 +48,16 @@ fn return_purse(shared: &Shared, owns: &mut Vec<Deque>, left: usize, purse: Vec<
     let mut purse = purse;
     while let Some(pass) = purse.pop() {
         let at = purse.len();
-        return_pass(shared, owns, left, at, pass);
+        return_steal_permission(shared, owns, left, at, pass);
     }
 }
 
 /// Takes all purses back into the deques.
-pub(crate) fn settle_purses(shared: &Shared, owns: &mut Vec<Deque>, purses: Vec<Vec<ThiefPass>>)
+pub(crate) fn return_steal_permissions_of_all(
+    shared: &Shared,
+    owns: &mut Vec<Deque>,
+    purses: Vec<Vec<ThiefPass>>,
+)
     requires count { length owns.old.items ≡ length shared.now.thieves.items }
     requires purses { All (λ p. AreParts shared.now.thieves.items p.items) purses.items }
     requires owns { let last = length shared.now.thieves.items in
@@ -56,6 +71,6 @@ pub(crate) fn settle_purses(shared: &Shared, owns: &mut Vec<Deque>, purses: Vec<
     let mut purses = purses;
     while let Some(purse) = purses.pop() {
         let left = purses.len();
-        return_purse(shared, owns, left, purse);
+        return_steal_permissions_of_worker(shared, owns, left, purse);
     }
 }

@@ -30,17 +30,17 @@ fn prices_one_unit(rt: HostRuntime) -> Result<(), Fail> {
         singles: 0,
     };
     let mut master = make_master(rt.alloc(), sizes)?;
-    master.set_due(0, 3.0);
+    master.set_requirement_of_row(0, 3.0);
     master.set_column(0, 0, 0.0, &[0], &[0]);
     master.set_column(0, 1, 100.0, &[4_000], &[1_000]);
     master.set_centre(0, 20.0);
     master.set_price(0, 20.0);
     master.set_price(1, 1.0);
     assert!(rt; master.solve(AIM));
-    same(&rt, thousandths(master.price(0)), 25_000);
-    same(&rt, thousandths(master.price(1)), 0);
-    same(&rt, thousandths(100.0 * master.share(0, 1)), 74_875);
-    same(&rt, thousandths(100.0 * master.share(0, 0)), 25_125);
+    same(&rt, thousandths(master.row_price(0)), 25_000);
+    same(&rt, thousandths(master.row_price(1)), 0);
+    same(&rt, thousandths(100.0 * master.column_share(0, 1)), 74_875);
+    same(&rt, thousandths(100.0 * master.column_share(0, 0)), 25_125);
     Ok(())
 }
 
@@ -63,15 +63,20 @@ fn solved_at(alloc: Global, cost: f64) -> Result<(bool, [i64; 4]), AllocError> {
         singles: 0,
     };
     let mut master = make_master(alloc, sizes)?;
-    master.set_due(0, 3.0);
+    master.set_requirement_of_row(0, 3.0);
     master.set_column(0, 0, 0.0, &[0], &[0]);
     master.set_column(0, 1, cost, &[4_000], &[1_000]);
     master.set_centre(0, 20.0);
     master.set_price(0, 20.0);
     master.set_price(1, 1.0);
     let is_solved = master.solve(AIM);
-    let (energy, reserve) = (master.price(0), master.price(1));
-    let told = told(energy, reserve, master.share(0, 0), master.share(0, 1));
+    let (energy, reserve) = (master.row_price(0), master.row_price(1));
+    let told = told(
+        energy,
+        reserve,
+        master.column_share(0, 0),
+        master.column_share(0, 1),
+    );
     Ok((is_solved, told))
 }
 
@@ -108,14 +113,19 @@ fn a_unit_without_a_column_has_no_share(rt: HostRuntime) -> Result<(), Fail> {
         singles: 0,
     };
     let mut master = make_master(rt.alloc(), sizes)?;
-    master.set_due(0, 0.01);
+    master.set_requirement_of_row(0, 0.01);
     master.set_centre(0, 20.0);
     master.set_price(0, 20.0);
     master.set_price(1, 1.0);
     let _ = master.solve(AIM);
     same(
         &rt,
-        told(0.0, 0.0, master.share(0, 0), master.share(0, 1)),
+        told(
+            0.0,
+            0.0,
+            master.column_share(0, 0),
+            master.column_share(0, 1),
+        ),
         [0, 0, 0, 0],
     );
     Ok(())
@@ -131,14 +141,18 @@ fn prices_one_variable(rt: HostRuntime) -> Result<(), Fail> {
         singles: 1,
     };
     let mut master = make_master(rt.alloc(), sizes)?;
-    master.set_due(0, 2.0);
-    master.add_single(0, 5.0, 35.0);
+    master.set_requirement_of_row(0, 2.0);
+    master.add_row_variable(0, 5.0, 35.0);
     master.set_centre(0, 7.0);
     master.set_price(0, 1.0);
     master.set_price(1, 1.0);
     assert!(rt; master.solve(AIM));
-    same(&rt, thousandths(master.price(0)), 7_000);
-    same(&rt, thousandths(master.standing().now), 14_000);
+    same(&rt, thousandths(master.row_price(0)), 7_000);
+    same(
+        &rt,
+        thousandths(master.summary_of_last_solution().now),
+        14_000,
+    );
     Ok(())
 }
 

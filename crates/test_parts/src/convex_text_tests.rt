@@ -6,8 +6,8 @@ use crate::same::same;
 use crate::small_cases::{one_price, one_response};
 use plain_lists::lists::{Amounts, Flags};
 use report_form::convex::{
-    SearchLines, write_mixture_entry, write_mixture_unit, write_search_before_units,
-    write_search_bound, write_search_totals,
+    SearchLines, write_convex_bound, write_convex_lines_before_units, write_convex_totals,
+    write_mixture_entry, write_mixture_unit,
 };
 use report_form::report::{Owed, write_unit};
 use std::alloc::{AllocError, Global};
@@ -50,7 +50,11 @@ fn write_front(rt: &impl Abort, alloc: Global, sink: &mut MemorySink) -> Result<
         supply: Amounts::filled(alloc, 1, 3000)?,
         reserve: Amounts::filled(alloc, 1, 0)?,
     };
-    same(rt, write_search_before_units(&lines, &row, sink), Ok(()));
+    same(
+        rt,
+        write_convex_lines_before_units(&lines, &row, sink),
+        Ok(()),
+    );
     Ok(())
 }
 
@@ -82,7 +86,7 @@ fn write_units(
 fn write_back(rt: &impl Abort, alloc: Global, sink: &mut MemorySink) -> Result<(), AllocError> {
     same(
         rt,
-        write_search_totals(0, 145_500_000, 145_500_000, 20, sink),
+        write_convex_totals(0, 145_500_000, 145_500_000, 20, sink),
         Ok(()),
     );
     same(rt, write_mixture_unit("G1", 3, sink), Ok(()));
@@ -99,7 +103,7 @@ fn write_back(rt: &impl Abort, alloc: Global, sink: &mut MemorySink) -> Result<(
     );
     same(
         rt,
-        write_search_bound(704_500_000, 0, 145_500_000, sink),
+        write_convex_bound(704_500_000, 0, 145_500_000, sink),
         Ok(()),
     );
     Ok(())

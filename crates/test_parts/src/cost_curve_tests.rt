@@ -3,7 +3,7 @@ ghost use Rattle.uc_model.specs.Limits.{Spans};
 ghost use Rattle.cost_curve.specs.CostCurve.{AreCostPoints, IsCostCurve, CanEvaluate};
 
 use crate::same::{same, same_of};
-use cost_curve::costs::{envelope_at, envelope_from_leg};
+use cost_curve::costs::{envelope_at, envelope_cost_with_cached_piece};
 use cost_curve::curves::curve_into;
 use std::process::Abort;
 use std::test::Fail;
@@ -19,8 +19,18 @@ fn has_cost(rt: &impl Abort, points: &[Point], curve: &Curve, x: i64, cost: i64)
 {
     same_of(rt, &x, envelope_at(points, x), cost);
     let mut near = None;
-    same_of(rt, &x, envelope_from_leg(points, x, &mut near), cost);
-    same_of(rt, &x, envelope_from_leg(points, x, &mut near), cost);
+    same_of(
+        rt,
+        &x,
+        envelope_cost_with_cached_piece(points, x, &mut near),
+        cost,
+    );
+    same_of(
+        rt,
+        &x,
+        envelope_cost_with_cached_piece(points, x, &mut near),
+        cost,
+    );
     same_of(rt, &x, curve_at(curve, x), cost);
 }
 

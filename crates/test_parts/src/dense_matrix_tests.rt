@@ -9,8 +9,8 @@ use std::test::Fail;
 fn solves_two_equations(rt: HostRuntime) -> Result<(), Fail> {
     let mut matrix = Matrix::make(rt.alloc(), 2)?;
     matrix.clear();
-    matrix.add_column(2.0, &[2.0, 1.5], &[1.0, 1.0]);
-    matrix.end_columns();
+    matrix.add_outer_product_of_column(2.0, &[2.0, 1.5], &[1.0, 1.0]);
+    matrix.add_remaining_outer_products();
     matrix.add_to_diagonal(1, 4.0);
     matrix.factor();
     let mut right = [8.0, 12.0];
@@ -25,10 +25,10 @@ fn solves_two_equations(rt: HostRuntime) -> Result<(), Fail> {
 fn adds_each_column_once(rt: HostRuntime) -> Result<(), Fail> {
     let mut matrix = Matrix::make(rt.alloc(), 2)?;
     for _ in 0..5 {
-        matrix.add_column(1.0, &[1.0, 0.0], &[0.0, 0.0]);
+        matrix.add_outer_product_of_column(1.0, &[1.0, 0.0], &[0.0, 0.0]);
     }
-    matrix.add_column(1.0, &[0.0, 1.0], &[0.0, 0.0]);
-    matrix.end_columns();
+    matrix.add_outer_product_of_column(1.0, &[0.0, 1.0], &[0.0, 0.0]);
+    matrix.add_remaining_outer_products();
     matrix.factor();
     let mut right = [10.0, 3.0];
     matrix.solve(&mut right);

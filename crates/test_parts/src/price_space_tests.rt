@@ -17,7 +17,7 @@ use std::alloc::{AllocError, Global};
 use std::process::Abort;
 use std::test::Fail;
 use uc_model::cases::{Case, Row};
-use uc_model::money::price_near;
+use uc_model::money::clamp_to_price_limit;
 use uc_model::units::{
     BidList, FlatList, Lags, Mark, Marks, NamedUnit, Point, Points, Prices, ThermalList, Unit,
 };
@@ -327,6 +327,10 @@ fn moves(rt: HostRuntime) -> Result<(), Fail> {
     energy_is(&rt, after_rows(alloc, 0, 11)?, 10);
     energy_is(&rt, after_rows(alloc, 100, 26)?, -5);
     energy_is(&rt, after_a_lack(alloc)?, -3);
-    same(&rt, price_near(-10_000_000, 9_999_990 + 20), 10_000_000);
+    same(
+        &rt,
+        clamp_to_price_limit(-10_000_000, 9_999_990 + 20),
+        10_000_000,
+    );
     Ok(())
 }

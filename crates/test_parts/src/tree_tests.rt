@@ -4,7 +4,7 @@ use std::alloc::{AllocError, Global};
 use std::process::Abort;
 use std::test::Fail;
 use text_tokens::small::SmallNumber;
-use text_tokens::{Decimal, Quoted, text_of};
+use text_tokens::{Decimal, Quoted, decode_quoted_string};
 use uc_text::{ListBranch, Member, Node, ObjectBranch, Parts, Tree};
 
 const SEVEN: SmallNumber = SmallNumber {
@@ -20,7 +20,7 @@ const LARGE: Decimal = Decimal {
 };
 
 fn name_is(rt: &impl Abort, alloc: Global, name: Quoted, due: &str) -> Result<(), AllocError> {
-    let name = text_of(alloc, name)?;
+    let name = decode_quoted_string(alloc, name)?;
     same(rt, name.as_str(), due);
     Ok(())
 }

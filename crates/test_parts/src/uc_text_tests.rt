@@ -106,7 +106,7 @@ fn only_value<'a>(
     name: &str,
 ) -> Result<Branch<'a>, AllocError> {
     let members = object.members(alloc)?;
-    assert!(rt; members.len() == 1 && members[0].name.says(name));
+    assert!(rt; members.len() == 1 && members[0].name.decodes_to_text(name));
     Ok(members[0].value)
 }
 

@@ -12,7 +12,7 @@ pub use Rattle.std.proofs.lemmas.Result.{IfOk-weaker, on_ok_weaker}
 pub use Rattle.std.specs.Int.{int_min}
 pub use Rattle.std.specs.Option.{option_map, option_map_or}
 pub use Rattle.std.specs.Prelude.{MatchOption, IsTrue, IsFalse, max, IfNone}
-pub use Rattle.cost_curve.specs.CostCurve.{IsCostCurve, EnvelopeIsCost}
+pub use Rattle.cost_curve.specs.CostCurve.{IsCostCurve, EnvelopeIsWithinCostLimit}
 pub use Rattle.test_shapes.specs.Cell.{Cell, Frame}
 pub use Rattle.slope_list.specs.Curve.{curve_value, reserve_term}
 pub use Rattle.slope_list.specs.Effect.{IsSum, IsWindow, CanAddCurve, IsLeastIn, IsLeast, IsSame, IsPoint}

@@ -1,7 +1,8 @@
 -- One period of backtracking, as its function has it.
 use Rattle.test_units.proofs.Common.{◌≡◌, ℕ, suc, ◌<◌, ◌≤◌, ◌⊎◌, inl, inr, ℤ, pos, ◌+ℤ◌, ◌≤ℤ◌, Bool, eqb, ltb, length}
 use Rattle.test_units.proofs.Common.{Option, Some, None, Result, Ok, Err, IfOk, IfSome, MatchOption, sym, ap, ◌∙◌}
-use Rattle.test_units.proofs.Common.{subst, arith, option_map, ints, IsCostCurve, EnvelopeIsCost, reserve_term}
+use Rattle.test_units.proofs.Common.{subst, arith, option_map, ints, IsCostCurve, EnvelopeIsWithinCostLimit}
+use Rattle.test_units.proofs.Common.{reserve_term}
 use Rattle.test_units.proofs.Common.{IsLeast, Table, value_of, IsEmpty, Curve, ThermalUnit, PriceLists, Schedule}
 use Rattle.test_units.proofs.Common.{IsFrom, IsThermalUnit, ArePrices, int_at, Found, Step, IsOnFromTo, IsSameOutside}
 use Rattle.test_units.proofs.Common.{IsFrontier, IsWritten, IsChosen, IsUnreached, IsWayFrom, stops_at, HasNoDispatch}
@@ -33,7 +34,7 @@ pub record IsPeriod (g : ThermalUnit) (π : PriceLists) (first k last : ℕ) (c 
   pub unit : IsThermalUnit g
   pub prices : ArePrices π
   pub curve : IsCostCurve g.points c
-  pub law : EnvelopeIsCost
+  pub law : EnvelopeIsWithinCostLimit
   pub within : k < length π.energy
   pub from : first ≤ suc k
   pub step_is : IsStep s (step_at g π k (eqb first (suc k)) (stops_at last (length π.energy) k))

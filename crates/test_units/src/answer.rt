@@ -23,7 +23,9 @@ use crate::{Spell, SpellCosts, spell_best};
 use std::alloc::{AllocError, Global};
 use test_shapes::{Shape, curve_of};
 use uc_model::units::{Answered, Curve, Prices, Unit};
-use unit_program::least_end::{earnings_of_cost, is_all_off, least_end, turn_all_off};
+use unit_program::least_end::{
+    earnings_of_cost, is_all_off, least_cost_end_of_horizon, turn_all_off,
+};
 use unit_rows::table::{Ended, Entry, Table};
 
 // Writes a dispatch of least net cost of the spell from `first` to `last`; nothing where it ends
@@ -212,7 +214,7 @@ fn named_answer<S: Shape>(
     ensures frame { Frame S.Home.cell_list S.is_in S.numbers [] [] home.old home.new }
 {
     let periods = prices.energy.len() as u32;
-    let Some(end) = least_end(unit, periods, rows) else {
+    let Some(end) = least_cost_end_of_horizon(unit, periods, rows) else {
         return Ok(None);
     };
     let mut into = Answered::make(alloc, periods)?;

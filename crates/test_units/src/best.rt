@@ -19,10 +19,10 @@ ghost use Rattle.uc_model.specs.PlainUnits.{thermal_of, prices_of, schedule_of};
 
 use crate::spell::Spell;
 use crate::step::{add_kink, beginning, starts_at, stepped};
-use cost_curve::laws::envelope_is_cost;
+use cost_curve::laws::envelope_is_within_cost_limit;
 use slope_list::step_terms::Step;
-use spell_run::step::step_over_period;
-use spell_run::write::write_best_reserve;
+use spell_run::step::step_terms_of_period;
+use spell_run::write::write_period_with_best_reserve;
 use std::alloc::AllocError;
 use test_shapes::Shape;
 use test_shapes::laws::{frames_join, others_stay};
@@ -83,7 +83,7 @@ fn choose<S: Shape>(
     let most = found.power + step.ramp_down;
     match before.least_in(home, least, most) {
         Some((_, power)) => {
-            write_best_reserve(into, index, step, power, found.power);
+            write_period_with_best_reserve(into, index, step, power, found.power);
             Ok(Some(Found {
                 cost: found.cost,
                 power,
@@ -105,7 +105,7 @@ fn step_in(unit: &Unit, prices: &Prices, spell: &Spell, index: usize) -> Step
 {
     let starts = starts_at(spell.first, spell.started, index);
     let stops = spell.stops && spell.last as usize == index + 1;
-    step_over_period(unit, prices, index, starts, stops)
+    step_terms_of_period(unit, prices, index, starts, stops)
 }
 
 /// Writes the last period of a spell, at an index, cheapest with what comes before it.
@@ -144,7 +144,7 @@ fn last_period<S: Shape>(
     ensures balance { S.Home.counts ≡ true
         → S.Home.sure home.new + S.cells before.new ≡ S.Home.sure home.old + S.cells before.old }
 {
-    envelope_is_cost();
+    envelope_is_within_cost_limit();
     frames_join::<S>();
     others_stay::<S>();
     let step = step_in(unit, prices, spell, index);
@@ -197,7 +197,7 @@ fn way_from<S: Shape>(
     if index + 1 == spell.last as usize {
         return last_period(home, unit, curve, prices, spell, index, before, into);
     }
-    envelope_is_cost();
+    envelope_is_within_cost_limit();
     frames_join::<S>();
     others_stay::<S>();
     let step = step_in(unit, prices, spell, index);

@@ -15,9 +15,9 @@ ghost use Rattle.uc_model.specs.PlainUnits.{thermal_of, prices_of};
 
 use crate::spell::SpellCosts;
 use crate::step::{beginning, starts_at, stepped, take_step};
-use cost_curve::laws::envelope_is_cost;
+use cost_curve::laws::envelope_is_within_cost_limit;
 use slope_list::step_terms::Step;
-use spell_run::step::{differs_in_range_alone, step_over_period};
+use spell_run::step::{are_steps_same_but_for_power_range, step_terms_of_period};
 use std::alloc::AllocError;
 use test_shapes::Shape;
 use test_shapes::laws::{frames_join, others_stay};
@@ -99,12 +99,12 @@ fn run_on<S: Shape>(
     ensures balance { Balance S.Home.counts (length curve.now.blocks.items + 5)
         (S.Home.sure home.old) (S.cells running.old) (S.Home.sure home.new) (S.cells running.new) }
 {
-    envelope_is_cost();
+    envelope_is_within_cost_limit();
     let starts = starts_at(first, started, index);
     take_step(
         home,
         running,
-        step_over_period(unit, prices, index, starts, false),
+        step_terms_of_period(unit, prices, index, starts, false),
         curve,
     )
 }
@@ -135,12 +135,12 @@ fn cost_to_stop<S: Shape>(
         → IsOk result }
     ensures balance { S.Home.counts ≡ true → S.Home.sure home.new ≡ S.Home.sure home.old }
 {
-    envelope_is_cost();
+    envelope_is_within_cost_limit();
     let starts = starts_at(first, started, index);
     cost_after(
         home,
         running,
-        step_over_period(unit, prices, index, starts, true),
+        step_terms_of_period(unit, prices, index, starts, true),
         curve,
     )
 }
@@ -180,15 +180,15 @@ fn pass<S: Shape>(
     ensures balance { Balance S.Home.counts (length curve.now.blocks.items + 5)
         (S.Home.sure home.old) (S.cells running.old) (S.Home.sure home.new) (S.cells running.new) }
 {
-    envelope_is_cost();
+    envelope_is_within_cost_limit();
     if index + 1 == prices.energy.len() {
         run_on(home, unit, curve, prices, first, started, index, running)?;
         return Ok(least_cost(home, running));
     }
     let starts = starts_at(first, started, index);
-    let on = step_over_period(unit, prices, index, starts, false);
-    let last = step_over_period(unit, prices, index, starts, true);
-    if differs_in_range_alone(on, last) {
+    let on = step_terms_of_period(unit, prices, index, starts, false);
+    let last = step_terms_of_period(unit, prices, index, starts, true);
+    if are_steps_same_but_for_power_range(on, last) {
         run_on(home, unit, curve, prices, first, started, index, running)?;
         return Ok(least_cost_in(home, running, last.least, last.most));
     }

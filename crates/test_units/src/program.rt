@@ -14,7 +14,7 @@ use std::alloc::AllocError;
 use test_shapes::Shape;
 use uc_model::units::{Curve, Prices, Unit};
 use unit_rows::commitment::may_end_spell;
-use unit_rows::table::{Entry, Table, begin_table};
+use unit_rows::table::{Entry, Table, reset_table_to_row_before_horizon};
 use unit_table::laws::stops_at_once_cost_nothing;
 
 // Adds the spells that begin with period `first` after an entry, with one pass over the prices if
@@ -119,7 +119,7 @@ fn begin<S: Shape>(
         ≤ S.Home.sure home.old → IsOk result }
 {
     stops_at_once_cost_nothing();
-    begin_table(unit, table);
+    reset_table_to_row_before_horizon(unit, table);
     if !unit.on0 {
         return Ok(());
     }

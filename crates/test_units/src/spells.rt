@@ -11,9 +11,10 @@ ghost use Rattle.unit_rows.specs.Ends.{IsEntry, IsLeastEntry};
 ghost use Rattle.unit_rows.specs.declared.table.Entry.{Entry};
 
 use uc_model::units::{Mark, Unit};
-use unit_rows::commitment::{may_end_spell, off_from, periods_off};
+use unit_rows::commitment::{earliest_allowed_last_on_period, may_end_spell, periods_off};
 use unit_rows::table::{
-    Ended, Entry, Table, cost_of_start_after, keep_lesser_end, lesser_entry, sum_of_costs,
+    Ended, Entry, Table, cost_of_start_after, lesser_spell_entry, sum_of_costs,
+    write_row_if_no_dearer,
 };
 
 // How many of the marks from a place on come before the first `MustOff`, and the place where they
@@ -84,8 +85,8 @@ pub fn least_entry(unit: &Unit, rows: &[Option<Ended>], before: u32) -> Option<E
     ensures bound { IfSome result (λ e. IsWithinTimes (2 * before + 3) e.cost) }
 {
     let mut least: Option<Entry> = None;
-    for last in off_from(unit, before)..before + 1 {
-        least = lesser_entry(least, entry_after(unit, rows, last, before), last);
+    for last in earliest_allowed_last_on_period(unit, before)..before + 1 {
+        least = lesser_spell_entry(least, entry_after(unit, rows, last, before), last);
     }
     least
 }
@@ -144,7 +145,7 @@ pub fn add_spells(
                 first,
                 before: entry.last,
             };
-            keep_lesser_end(table, last, ended);
+            write_row_if_no_dearer(table, last, ended);
         }
     }
 }

@@ -12,7 +12,7 @@ use Rattle.uc_model.specs.Limits.{IsCurve}
 use Rattle.plain_lists.proofs.IntLaws.{mul-sub}
 use Rattle.plain_lists.proofs.SignedLaws.{IsWithin, product_within}
 use Rattle.slope_list.specs.Effect.{CanAddCurve}
-use Rattle.slope_list.specs.ShapeLaws.{CurvesHaveValues}
+use Rattle.slope_list.specs.ShapeLaws.{CurveHasValueAtEachPower}
 use Rattle.slope_list.proofs.Lookup.{power_split}
 use Rattle.slope_list.specs.Table.{Table, value_of, IsWithinLimits, HasNone, CanAdd}
 
@@ -246,7 +246,7 @@ module _ (c : Curve) (few : length c.blocks.items < 100) (fair : AreFair c.block
             (omega (arith, ints), omega (arith, ints));
       }
 
-  pub CanAddCurve-fair : CurvesHaveValues → (f : Table) (shift : ℤ) → IsSmall f → IsNear shift →
+  pub CanAddCurve-fair : CurveHasValueAtEachPower → (f : Table) (shift : ℤ) → IsSmall f → IsNear shift →
       HasNone (neg_ℤ (pos 4000000000)) ((c.at -ℤ shift) -ℤ pos 1) f
       → HasNone ((end_of c.at c.blocks.items -ℤ shift) +ℤ pos 1) (pos 4000000000) f →
       CanAddCurve (curve_value c) shift f

@@ -20,7 +20,7 @@ use std::thread::Threads;
 use uc_model::cases::Case;
 use uc_model::limits::MOST_POINTS;
 use unit_program::Bench;
-use unit_program::case_laws::benches_serve_all;
+use unit_program::case_laws::case_bench_suffices_for_each_unit;
 
 pub(crate) const RIGHT: &str = "hull-report 1\n\
     periods 1\nunits 2\nbudget 1\nahead 1\ncost 3500\nproposals 1\n\
@@ -36,7 +36,7 @@ pub(crate) const RIGHT: &str = "hull-report 1\n\
 fn bench_for(alloc: Global, case: &Case) -> Result<Bench, Fail>
     ensures { IfOk result (IsBenchOver (market_of case.now)) }
 {
-    benches_serve_all();
+    case_bench_suffices_for_each_unit();
     let bench = Bench::make(alloc, case.periods, MOST_POINTS)?;
     Ok(bench)
 }

@@ -9,7 +9,7 @@ ghost use Rattle.audit_check.specs.Jobs.{AreFor};
 
 use crate::boards::{CASE, PLAN, planned, same_row};
 use crate::same::same;
-use audit_check::{Answerer, right_rows};
+use audit_check::{Answerer, recomputed_rows_of_run};
 use plain_lists::lists::ReservedList;
 use std::alloc::Global;
 use std::sync::{Arc, Wait};
@@ -17,7 +17,7 @@ use std::test::Fail;
 use std::thread::Threads;
 use uc_model::cases::{Case, Row};
 use uc_model::limits::MOST_POINTS;
-use unit_program::case_laws::benches_serve_all;
+use unit_program::case_laws::case_bench_suffices_for_each_unit;
 use unit_program::{Bench, LastAnswers};
 
 // A job with a bench for any unit.
@@ -29,7 +29,7 @@ fn job_for<'a>(
     requires { HasSchedules (market_of case.now) }
     ensures { IfOk result (λ job. job.case.now ≡ case.now) }
 {
-    benches_serve_all();
+    case_bench_suffices_for_each_unit();
     let bench = Bench::make(alloc, case.periods, MOST_POINTS)?;
     Ok(Answerer::make(alloc, case, bench, last)?)
 }
@@ -60,7 +60,7 @@ fn two_rows<R: Threads + Wait + Sync>(
 {
     let (case, plan, cost) = planned(alloc, CASE, PLAN)?;
     let mut jobs = jobs_for(alloc, &case, count)?;
-    Ok(right_rows(rt, alloc, &case, cost, 2, 1, &mut jobs)?)
+    Ok(recomputed_rows_of_run(rt, alloc, &case, cost, 2, 1, &mut jobs)?)
 }
 
 #[test]

@@ -18,7 +18,7 @@ use test_units::answer::write_best;
 use test_units::laws::no_end_is_no_schedule;
 use test_units::program::fill;
 use uc_model::units::{Answered, Blocks, Curve, Prices, Unit};
-use unit_program::least_end::least_end;
+use unit_program::least_end::least_cost_end_of_horizon;
 use unit_rows::table::Table;
 
 /// Memory for answers by shapes in a pool. What its curve, costs and table hold between two calls
@@ -106,7 +106,7 @@ pub fn best_on_bench(
     if filled.is_err() {
         return false;
     }
-    let Some(end) = least_end(unit, periods, bench.table.as_slice()) else {
+    let Some(end) = least_cost_end_of_horizon(unit, periods, bench.table.as_slice()) else {
         return false;
     };
     let written = write_best::<Pooled>(

@@ -6,7 +6,7 @@ ghost use Rattle.slope_list.specs.Curve.{end_of};
 ghost use Rattle.slope_list.specs.Table.{HasNone};
 ghost use Rattle.test_whole.specs.Small.{IsSmall, IsModestAt, IsNear, AreFair};
 
-use slope_list::shape_laws::curves_have_values;
+use slope_list::shape_laws::curve_has_value_at_each_power;
 use std::alloc::{AllocError, Global};
 use std::process::Abort;
 use std::test::Fail;
@@ -182,7 +182,7 @@ fn add_curve<S: Shape>(
     if !after {
         return Ok(false);
     }
-    curves_have_values();
+    curve_has_value_at_each_power();
     s.add_curve(home, curve, shift)?;
     Ok(true)
 }

@@ -53,7 +53,7 @@ unfoldable pub rounded : Decimal → ℕ → ℤ
 rounded d scale = signed d.negative (rounded_size d scale)
 
 -- it is that number, and no other is
-abbrev pub RoundsToNearest : Type 0
-RoundsToNearest =
+abbrev pub DecimalRoundsToNearestInteger : Type 0
+DecimalRoundsToNearestInteger =
     (d : Decimal) (scale : ℕ) → IsRounded d scale (rounded d scale)
     × ((n : ℤ) → IsRounded d scale n → n ≡ rounded d scale)

@@ -80,7 +80,7 @@ pub fn letters_len(bytes: &[u8]) -> usize
 }
 
 /// A byte of a string that stands for itself.
-pub fn is_plain(b: u8) -> bool
+pub fn is_unescaped_byte(b: u8) -> bool
     ensures { result ≡ plain b }
 {
     32 <= b && b != b'"' && b != b'\\'
@@ -91,7 +91,7 @@ pub fn plain_len(bytes: &[u8]) -> usize
     ensures { result ≡ prefix_len plain bytes.now }
 {
     for (i, b) in bytes.iter().enumerate() {
-        if !is_plain(*b) {
+        if !is_unescaped_byte(*b) {
             return i;
         }
     }

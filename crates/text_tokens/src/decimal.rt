@@ -69,14 +69,14 @@ fn rounded_magnitude(d: Decimal, scale: u32, limit: u64) -> Option<u64>
     let power = d.exponent as i64 + scale as i64;
     let places = power.unsigned_abs();
     if 0 <= power {
-        raised_digits(d.digits, places, limit)
+        digits_times_power_of_ten(d.digits, places, limit)
     } else {
-        lowered_digits(d, places, limit)
+        digits_divided_by_power_of_ten(d, places, limit)
     }
 }
 
 /// The digits with so many zeros behind them.
-fn raised_digits(digits: u128, places: u64, limit: u64) -> Option<u64>
+fn digits_times_power_of_ten(digits: u128, places: u64, limit: u64) -> Option<u64>
     requires { limit ≤ 10 ^ 18 }
     ensures { SomeIff result (digits * 10 ^ places ≤ limit) (digits * 10 ^ places) }
 {
@@ -100,7 +100,7 @@ fn raised_digits(digits: u128, places: u64, limit: u64) -> Option<u64>
 /// The digits without the last so many of them, rounded.
 // A call of its own, so that the way of most numbers stays short.
 #[inline(never)]
-fn lowered_digits(d: Decimal, places: u64, limit: u64) -> Option<u64>
+fn digits_divided_by_power_of_ten(d: Decimal, places: u64, limit: u64) -> Option<u64>
     requires { limit ≤ 10 ^ 18 }
     ensures { SomeIff result (size_cut d.negative d.digits (10 ^ places) ≤ limit)
         (size_cut d.negative d.digits (10 ^ places)) }

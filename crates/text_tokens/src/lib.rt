@@ -19,5 +19,5 @@ pub use decimal::{Decimal, NumFault, is_whole, whole};
 pub use number_run::decimal_at;
 pub use quoted::Quoted;
 pub use reader::Reader;
-pub use strings::{quoted_or_empty, text_of};
+pub use strings::{decode_quoted_string, quoted_or_empty};
 pub use token::{Lexeme, Token, Word};

@@ -31,7 +31,7 @@ pub enum Numeral {
 }
 
 /// The value of the digits behind others, unless it has more than 30 digits.
-fn digits_after(before: u128, digits: &[u8]) -> Option<u128>
+fn value_with_digits_appended(before: u128, digits: &[u8]) -> Option<u128>
     requires digits { AreDigits digits.now }
     requires before { before < 10 ^ 30 }
     ensures some { IfSome result (λ n. (n ≡ value_from before digits.now) × (n < 10 ^ 30)) }
@@ -48,7 +48,7 @@ fn digits_after(before: u128, digits: &[u8]) -> Option<u128>
 }
 
 /// The value of digits, unless it is above the limit.
-fn value_within(digits: &[u8], limit: u32) -> Option<u32>
+fn value_of_digits_within_limit(digits: &[u8], limit: u32) -> Option<u32>
     requires digits { AreDigits digits.now }
     requires small { limit < 1000000 }
     ensures some { IfSome result (λ n. (n ≡ value digits.now) × (n ≤ limit)) }
@@ -65,7 +65,7 @@ fn value_within(digits: &[u8], limit: u32) -> Option<u32>
 }
 
 /// The digits in front, and the bytes behind them.
-fn split_digits(bytes: &[u8]) -> (&[u8], &[u8])
+fn split_leading_digits(bytes: &[u8]) -> (&[u8], &[u8])
     ensures front { result.0.now ≡ front bytes.now }
     ensures behind { result.1.now ≡ behind bytes.now }
     ensures digits { AreDigits result.0.now }
@@ -90,7 +90,7 @@ fn are_digits(bytes: &[u8]) -> bool
 }
 
 /// The power of ten of a number with a written exponent, and digits behind the point.
-fn exponent_behind_point(lowers: bool, power: u32, fraction_len: usize) -> i32
+fn exponent_less_fraction_digits(lowers: bool, power: u32, fraction_len: usize) -> i32
     requires power { power ≤ 400 }
     requires fraction_len { fraction_len < 2 ^ 30 }
     ensures { result ≡ (if lowers then neg_ℤ (pos power) else pos power) -ℤ pos fraction_len }
@@ -100,7 +100,7 @@ fn exponent_behind_point(lowers: bool, power: u32, fraction_len: usize) -> i32
     written - fraction_len as i32
 }
 
-fn number_token(
+fn number_from_parsed_parts(
     negative: bool,
     whole: &[u8],
     fraction: &[u8],
@@ -113,16 +113,16 @@ fn number_token(
     requires few { length fraction.now < 2 ^ 30 }
     ensures { numeral_of result ≡ number_spec negative whole.now fraction.now lowers power.now }
 {
-    let Some(before) = digits_after(0, whole) else {
+    let Some(before) = value_with_digits_appended(0, whole) else {
         return Numeral::TooLong;
     };
-    let Some(digits) = digits_after(before, fraction) else {
+    let Some(digits) = value_with_digits_appended(before, fraction) else {
         return Numeral::TooLong;
     };
-    let Some(written) = value_within(power, 400) else {
+    let Some(written) = value_of_digits_within_limit(power, 400) else {
         return Numeral::TooLong;
     };
-    let exponent = exponent_behind_point(lowers, written, fraction.len());
+    let exponent = exponent_less_fraction_digits(lowers, written, fraction.len());
     Numeral::Number(Decimal {
         negative,
         digits,
@@ -132,7 +132,7 @@ fn number_token(
 
 /// Behind the letter and the sign of an exponent.
 #[tactic(auto, unfolding(crate::specs::Numbers::power_digits))]
-fn numeral_behind_power_sign(
+fn parse_exponent_digits(
     negative: bool,
     whole: &[u8],
     fraction: &[u8],
@@ -146,7 +146,7 @@ fn numeral_behind_power_sign(
         bytes.now }
 {
     if are_digits(bytes) {
-        number_token(negative, whole, fraction, lowers, bytes)
+        number_from_parsed_parts(negative, whole, fraction, lowers, bytes)
     } else {
         Numeral::Bad
     }
@@ -154,33 +154,43 @@ fn numeral_behind_power_sign(
 
 /// Behind the letter of an exponent.
 #[tactic(auto, unfolding(crate::specs::Numbers::power))]
-fn numeral_with_power(negative: bool, whole: &[u8], fraction: &[u8], bytes: &[u8]) -> Numeral
+fn parse_exponent_after_letter(
+    negative: bool,
+    whole: &[u8],
+    fraction: &[u8],
+    bytes: &[u8],
+) -> Numeral
     requires whole { AreDigits whole.now }
     requires fraction { AreDigits fraction.now }
     requires few { length fraction.now < 2 ^ 30 }
     ensures { numeral_of result ≡ power_spec negative whole.now fraction.now bytes.now }
 {
     if begins_with(b'-', bytes) {
-        numeral_behind_power_sign(negative, whole, fraction, true, bytes_from(bytes, 1))
+        parse_exponent_digits(negative, whole, fraction, true, bytes_from(bytes, 1))
     } else if begins_with(b'+', bytes) {
-        numeral_behind_power_sign(negative, whole, fraction, false, bytes_from(bytes, 1))
+        parse_exponent_digits(negative, whole, fraction, false, bytes_from(bytes, 1))
     } else {
-        numeral_behind_power_sign(negative, whole, fraction, false, bytes)
+        parse_exponent_digits(negative, whole, fraction, false, bytes)
     }
 }
 
 /// Behind the fraction.
 #[tactic(auto, unfolding(crate::specs::Numbers::behind_fraction))]
-fn numeral_behind_fraction(negative: bool, whole: &[u8], fraction: &[u8], bytes: &[u8]) -> Numeral
+fn parse_number_after_fraction(
+    negative: bool,
+    whole: &[u8],
+    fraction: &[u8],
+    bytes: &[u8],
+) -> Numeral
     requires whole { AreDigits whole.now }
     requires fraction { AreDigits fraction.now }
     requires few { length fraction.now < 2 ^ 30 }
     ensures { numeral_of result ≡ behind_fraction_spec negative whole.now fraction.now bytes.now }
 {
     if bytes.is_empty() {
-        number_token(negative, whole, fraction, false, bytes)
+        number_from_parsed_parts(negative, whole, fraction, false, bytes)
     } else if begins_with(b'e', bytes) || begins_with(b'E', bytes) {
-        numeral_with_power(negative, whole, fraction, bytes_from(bytes, 1))
+        parse_exponent_after_letter(negative, whole, fraction, bytes_from(bytes, 1))
     } else {
         Numeral::Bad
     }
@@ -188,30 +198,30 @@ fn numeral_behind_fraction(negative: bool, whole: &[u8], fraction: &[u8], bytes:
 
 /// Behind the whole part.
 #[tactic(auto, unfolding(crate::specs::Numbers::behind_whole))]
-fn numeral_behind_whole(negative: bool, whole: &[u8], bytes: &[u8]) -> Numeral
+fn parse_number_after_integer_part(negative: bool, whole: &[u8], bytes: &[u8]) -> Numeral
     requires whole { AreDigits whole.now }
     requires few { length bytes.now < 2 ^ 30 }
     ensures { numeral_of result ≡ behind_whole_spec negative whole.now bytes.now }
 {
     if !begins_with(b'.', bytes) {
-        return numeral_behind_fraction(negative, whole, &bytes[..0], bytes);
+        return parse_number_after_fraction(negative, whole, &bytes[..0], bytes);
     }
-    let (fraction, others) = split_digits(bytes_from(bytes, 1));
+    let (fraction, others) = split_leading_digits(bytes_from(bytes, 1));
     if fraction.is_empty() {
         return Numeral::Bad;
     }
-    numeral_behind_fraction(negative, whole, fraction, others)
+    parse_number_after_fraction(negative, whole, fraction, others)
 }
 
 /// Behind the sign.
 #[tactic(auto, unfolding(crate::specs::Numbers::unsigned))]
-fn unsigned_numeral(negative: bool, bytes: &[u8]) -> Numeral
+fn parse_unsigned_number(negative: bool, bytes: &[u8]) -> Numeral
     requires few { length bytes.now < 2 ^ 30 }
     ensures { numeral_of result ≡ unsigned_spec negative bytes.now }
 {
-    let (whole, others) = split_digits(bytes);
+    let (whole, others) = split_leading_digits(bytes);
     if is_whole_part(whole) {
-        numeral_behind_whole(negative, whole, others)
+        parse_number_after_integer_part(negative, whole, others)
     } else {
         Numeral::Bad
     }
@@ -219,20 +229,20 @@ fn unsigned_numeral(negative: bool, bytes: &[u8]) -> Numeral
 
 /// What a run of bytes of a number is.
 #[tactic(auto, unfolding(crate::specs::Numbers::number_of))]
-pub fn numeral_in(run: &[u8]) -> Numeral
+pub fn parse_number_bytes(run: &[u8]) -> Numeral
     requires { length run.now < 2 ^ 30 }
     ensures { numeral_of result ≡ number_of run.now }
 {
     if begins_with(b'-', run) {
-        unsigned_numeral(true, bytes_from(run, 1))
+        parse_unsigned_number(true, bytes_from(run, 1))
     } else {
-        unsigned_numeral(false, run)
+        parse_unsigned_number(false, run)
     }
 }
 
 /// The value of the digits in front, behind those of a value, and how many they are. None where it
 /// has ten digits.
-fn digits_ahead(before: u32, bytes: &[u8]) -> Option<(u32, usize)>
+fn value_of_leading_digits(before: u32, bytes: &[u8]) -> Option<(u32, usize)>
     requires { before < 10 ^ 9 }
     ensures value { IfSome result (λ r. r.0 ≡ value_from before (front bytes.now)) }
     ensures small { IfSome result (λ r. r.0 < 10 ^ 9) }
@@ -252,7 +262,7 @@ fn digits_ahead(before: u32, bytes: &[u8]) -> Option<(u32, usize)>
     Some((n, bytes.len()))
 }
 
-fn ends_number(bytes: &[u8]) -> bool
+fn is_end_of_number(bytes: &[u8]) -> bool
     ensures { result ≡ true → prefix_len number_byte bytes.now ≡ 0 }
 {
     // A comma is asked for first, since it stands behind most numbers.
@@ -260,7 +270,7 @@ fn ends_number(bytes: &[u8]) -> bool
 }
 
 /// The power of ten of a number without a written exponent.
-fn unwritten_exponent(fraction_len: usize) -> i16
+fn exponent_of_fraction_digits(fraction_len: usize) -> i16
     requires { fraction_len ≤ 9999 }
     ensures { result ≡ pos 0 -ℤ pos fraction_len }
 {
@@ -269,7 +279,7 @@ fn unwritten_exponent(fraction_len: usize) -> i16
 
 /// A whole number of few digits and then a fraction, behind the point: the number, and how many
 /// digits the fraction has.
-fn short_fraction(whole: u32, bytes: &[u8]) -> Option<(SmallNumber, usize)>
+fn parse_short_fraction(whole: u32, bytes: &[u8]) -> Option<(SmallNumber, usize)>
     requires { whole < 10 ^ 9 }
     ensures some { IfSome result (λ r. (0 < r.1) × (r.1 ≡ prefix_len digit bytes.now)) }
     ensures ends { IfSome result (λ r. prefix_len number_byte (drop r.1 bytes.now) ≡ 0) }
@@ -279,16 +289,16 @@ fn short_fraction(whole: u32, bytes: &[u8]) -> Option<(SmallNumber, usize)>
         (λ r. (r.0.exponent ≡ pos 0 -ℤ pos r.1) × (r.0.negative ≡ false)) }
     ensures within { IfSome result (λ r. r.1 ≤ length bytes.now) }
 {
-    let (digits, fraction_len) = digits_ahead(whole, bytes)?;
+    let (digits, fraction_len) = value_of_leading_digits(whole, bytes)?;
     if fraction_len == 0 || 9999 < fraction_len {
         return None;
     }
-    if !ends_number(bytes_from(bytes, fraction_len)) {
+    if !is_end_of_number(bytes_from(bytes, fraction_len)) {
         return None;
     }
     let small = SmallNumber {
         digits,
-        exponent: unwritten_exponent(fraction_len),
+        exponent: exponent_of_fraction_digits(fraction_len),
         negative: false,
     };
     Some((small, fraction_len))
@@ -298,23 +308,23 @@ fn short_fraction(whole: u32, bytes: &[u8]) -> Option<(SmallNumber, usize)>
 /// bytes it has.
 // Written out where it is called: once for each of a case's tens of thousands of numbers.
 #[inline(always)]
-pub fn short_number(bytes: &[u8]) -> Option<(SmallNumber, usize)>
+pub fn parse_short_number(bytes: &[u8]) -> Option<(SmallNumber, usize)>
     ensures is { IfSome result
         (λ r. (word (number (decimal_of r.0)), r.1) ≡ number_at bytes.now) }
     ensures first { IfSome result
         (λ r. (digit (slice_index bytes.now 0) ≡ true) × (0 < r.1)) }
     ensures within { IfSome result (λ r. r.1 ≤ length bytes.now) }
 {
-    let (digits, len) = digits_ahead(0, bytes)?;
+    let (digits, len) = value_of_leading_digits(0, bytes)?;
     if !is_whole_part(&bytes[..len]) {
         return None;
     }
     let others = bytes_from(bytes, len);
     if begins_with(b'.', others) {
-        let (small, fraction_len) = short_fraction(digits, bytes_from(others, 1))?;
+        let (small, fraction_len) = parse_short_fraction(digits, bytes_from(others, 1))?;
         return Some((small, len + 1 + fraction_len));
     }
-    if !ends_number(others) {
+    if !is_end_of_number(others) {
         return None;
     }
     let small = SmallNumber {

@@ -6,7 +6,7 @@ ghost use Rattle.text_tokens.specs.Tokens.{number_at};
 
 use crate::bytes::number_len;
 use crate::decimal::Decimal;
-use crate::number::{Numeral, numeral_in};
+use crate::number::{Numeral, parse_number_bytes};
 
 /// The bytes of a number.
 #[derive(Clone, Copy)]
@@ -22,7 +22,7 @@ impl<'a> NumberRun<'a> {
     pub fn decimal(self) -> Decimal
         ensures { result ≡ decimal_in (number_of self.entry.bytes.now) }
     {
-        match numeral_in(self.bytes) {
+        match parse_number_bytes(self.bytes) {
             Numeral::Number(number) => number,
             _ => unreachable!(),
         }
@@ -35,7 +35,7 @@ pub fn decimal_at(bytes: &[u8]) -> Decimal
     ensures { result ≡ decimal_in (number_at bytes.now).0 }
 {
     let len = number_len(bytes);
-    match numeral_in(&bytes[..len]) {
+    match parse_number_bytes(&bytes[..len]) {
         Numeral::Number(number) => number,
         _ => Decimal {
             negative: false,

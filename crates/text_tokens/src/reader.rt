@@ -4,9 +4,9 @@ ghost use Rattle.text_tokens.specs.Grammar.{end};
 ghost use Rattle.text_tokens.specs.Tokens.{is_blank as blank};
 
 use crate::bytes::bytes_from;
-use crate::number::short_number;
+use crate::number::parse_short_number;
 use crate::small::SmallNumber;
-use crate::token::{Lexeme, Token, is_blank, mark_token, token_at};
+use crate::token::{Lexeme, Token, is_blank, punctuation_token, token_at};
 
 /// A text, and the offset behind the last token that was read.
 #[derive(Drop)]
@@ -40,13 +40,13 @@ impl<'a> Reader<'a> {
     {
         let offset = self.at;
         if offset < self.bytes.len() {
-            if let Some(token) = mark_token(self.bytes[offset]) {
+            if let Some(token) = punctuation_token(self.bytes[offset]) {
                 self.at = offset + 1;
                 let offset = offset as u32;
                 return Lexeme { token, offset };
             }
         }
-        self.next_of_all()
+        self.next_token_of_any_kind()
     }
 
     /// Passes over the blanks that come next.
@@ -73,7 +73,7 @@ impl<'a> Reader<'a> {
     {
         self.pass_blanks();
         let rest = bytes_from(self.bytes, self.at);
-        let (small, len) = short_number(rest)?;
+        let (small, len) = parse_short_number(rest)?;
         if len < rest.len() && rest[len] == b',' {
             self.at += len + 1;
             Some(small)
@@ -85,7 +85,7 @@ impl<'a> Reader<'a> {
     /// The next token, whatever it is.
     // A call of its own, so that the way of a mark stays short.
     #[inline(never)]
-    fn next_of_all(&mut self) -> Lexeme<'a>
+    fn next_token_of_any_kind(&mut self) -> Lexeme<'a>
         ensures next { NextIs (rest self.old) (seen result) (rest self.new) }
         ensures last { token_of result.token ≡ end → rest self.old ≡ seen result ∷ [] }
         ensures ahead { ahead self.new ≤ ahead self.old }

@@ -5,12 +5,12 @@ ghost use Rattle.text_tokens.specs.Plain.{is_plain as plain};
 ghost use Rattle.text_tokens.specs.Pieces.{said_by};
 ghost use Rattle.text_tokens.specs.Strings.{string_from, after_piece};
 
-use crate::bytes::{begins_with, bytes_from, is_plain};
+use crate::bytes::{begins_with, bytes_from, is_unescaped_byte};
 use crate::quoted::Quoted;
-use crate::strings::{Said, piece_at, plain_string};
+use crate::strings::{Said, decode_string_piece_at, len_of_unescaped_string};
 
 /// The bytes behind what a piece says, where they begin with that.
-fn bytes_behind_said(bytes: &[u8], said: Said) -> Option<&[u8]>
+fn strip_prefix_of_decoded_piece(bytes: &[u8], said: Said) -> Option<&[u8]>
     ensures some { IfSome result (λ others. bytes.now ≡ said_by said ++ others.now) }
     ensures none { IfNone result ((more : List ℕ) → bytes.now ≡ said_by said ++ more → ⊥) }
 {
@@ -40,7 +40,7 @@ fn common_prefix_len(bytes: &[u8], text: &[u8]) -> usize
         → slice_index text.now result ≡ slice_index bytes.now result → ⊥ }
 {
     for (i, b) in text.iter().enumerate() {
-        if bytes.len() <= i || bytes[i] != *b || !is_plain(*b) {
+        if bytes.len() <= i || bytes[i] != *b || !is_unescaped_byte(*b) {
             return i;
         }
     }
@@ -52,35 +52,35 @@ impl<'a> Quoted<'a> {
     ghost use Rattle.text_tokens.specs.Strings.{said};
 
     /// What it says, where each of its bytes stands for itself.
-    pub fn plain(self) -> Option<&'a [u8]>
+    pub fn bytes_if_unescaped(self) -> Option<&'a [u8]>
         ensures { IfSome result (λ text. text.now ≡ said self.entry.bytes.now) }
     {
-        let len = plain_string(self.bytes)?;
+        let len = len_of_unescaped_string(self.bytes)?;
         Some(&self.bytes[..len])
     }
 
     /// Whether it says this text. Takes no memory, and ends at the first difference.
-    pub fn says(self, text: &str) -> bool
+    pub fn decodes_to_text(self, text: &str) -> bool
         ensures { result ≡ bytes_eq (said self.entry.bytes.now) text.now }
     {
-        self.says_bytes(text.as_bytes())
+        self.decodes_to_bytes(text.as_bytes())
     }
 
-    /// Whether it says the text of these bytes, as `says` answers.
-    pub fn says_bytes(self, text: &[u8]) -> bool
+    /// Whether it says the text of these bytes, as `decodes_to_text` answers.
+    pub fn decodes_to_bytes(self, text: &[u8]) -> bool
         ensures { result ≡ bytes_eq (said self.entry.bytes.now) text.now }
     {
         let bytes = self.bytes;
         let mut at = common_prefix_len(bytes, text);
-        if at < bytes.len() && is_plain(bytes[at]) {
+        if at < bytes.len() && is_unescaped_byte(bytes[at]) {
             return false;
         }
         let mut wanted = bytes_from(text, at);
         'pieces: while at < bytes.len() && bytes[at] != b'"' {
-            let Some(piece) = piece_at(bytes_from(bytes, at)) else {
+            let Some(piece) = decode_string_piece_at(bytes_from(bytes, at)) else {
                 unreachable!();
             };
-            let Some(others) = bytes_behind_said(wanted, piece.said) else {
+            let Some(others) = strip_prefix_of_decoded_piece(wanted, piece.said) else {
                 return false;
             };
             wanted = others;

@@ -63,7 +63,7 @@ fn short_escape(letter: u8) -> Option<u8>
 }
 
 #[tactic(auto, unfolding(crate::specs::Strings::four))]
-fn four_digits(a: u8, b: u8, c: u8, d: u8) -> Option<u32>
+fn value_of_four_hex_digits(a: u8, b: u8, c: u8, d: u8) -> Option<u32>
     ensures is { result ≡ four a b c d }
     ensures small { IfSome result (λ n. n < 65536) }
     ensures ascii { IfSome result (λ _. d < 128) }
@@ -76,7 +76,7 @@ fn four_digits(a: u8, b: u8, c: u8, d: u8) -> Option<u32>
 }
 
 #[tactic(auto, unfolding(crate::specs::Strings::unit_at))]
-fn escaped_unit_at(bytes: &[u8]) -> Option<u32>
+fn utf16_escape_at(bytes: &[u8]) -> Option<u32>
     ensures is { result ≡ unit_spec bytes.now }
     ensures small { IfSome result (λ n. n < 65536) }
     ensures long { IfSome result (λ _. 4 ≤ length bytes.now) }
@@ -85,7 +85,7 @@ fn escaped_unit_at(bytes: &[u8]) -> Option<u32>
     if bytes.len() < 4 {
         return None;
     }
-    four_digits(bytes[0], bytes[1], bytes[2], bytes[3])
+    value_of_four_hex_digits(bytes[0], bytes[1], bytes[2], bytes[3])
 }
 
 fn is_high_surrogate(unit: u32) -> bool
@@ -101,7 +101,7 @@ fn is_low_surrogate(unit: u32) -> bool
 }
 
 /// A character, where the number is one.
-fn character_piece(code: u32, len: usize) -> Option<Piece>
+fn decode_code_point(code: u32, len: usize) -> Option<Piece>
     requires few { 4 ≤ len }
     ensures low { code < 55296 → result ≡ Some (record { said = Said.Character code; len = len }) }
     ensures high { 57344 ≤ code → code < 1114112
@@ -125,7 +125,7 @@ fn surrogate_pair(high: u32, low: u32) -> Option<Piece>
     if !is_low_surrogate(low) {
         return None;
     }
-    character_piece(65536 + 1024 * (high - 0xD800) + (low - 0xDC00), 12)
+    decode_code_point(65536 + 1024 * (high - 0xD800) + (low - 0xDC00), 12)
 }
 
 #[tactic(auto, unfolding(crate::specs::Strings::second_at))]
@@ -134,14 +134,14 @@ fn low_surrogate_at(bytes: &[u8]) -> Option<u32>
     ensures ascii { IfSome result (λ _. slice_index bytes.now 5 < 128) }
 {
     if byte_or_zero(bytes, 0) == b'\\' && byte_or_zero(bytes, 1) == b'u' {
-        escaped_unit_at(bytes_from(bytes, 2))
+        utf16_escape_at(bytes_from(bytes, 2))
     } else {
         None
     }
 }
 
 #[tactic(auto, unfolding(crate::specs::Strings::unit_piece))]
-fn unit_piece(unit: u32, bytes: &[u8]) -> Option<Piece>
+fn decode_utf16_escape(unit: u32, bytes: &[u8]) -> Option<Piece>
     requires { unit < 65536 }
     ensures is { seen_piece result ≡ unit_piece_spec unit bytes.now }
     ensures len { IfSome result (λ p. p.len ≢ 6 → (p.len ≡ 12) × (slice_index bytes.now 5 < 128)) }
@@ -155,7 +155,7 @@ fn unit_piece(unit: u32, bytes: &[u8]) -> Option<Piece>
     if is_low_surrogate(unit) {
         return None;
     }
-    character_piece(unit, 6)
+    decode_code_point(unit, 6)
 }
 
 /// The piece behind a backslash.
@@ -175,13 +175,13 @@ fn escape_at(bytes: &[u8]) -> Option<Piece>
             len: 2,
         });
     }
-    let unit = escaped_unit_at(bytes_from(bytes, 1))?;
-    unit_piece(unit, bytes_from(bytes, 5))
+    let unit = utf16_escape_at(bytes_from(bytes, 1))?;
+    decode_utf16_escape(unit, bytes_from(bytes, 5))
 }
 
 /// The piece in front.
 #[tactic(auto, unfolding(crate::specs::Strings::piece_at))]
-pub fn piece_at(bytes: &[u8]) -> Option<Piece>
+pub fn decode_string_piece_at(bytes: &[u8]) -> Option<Piece>
     requires { 0 < length bytes.now }
     ensures is { seen_piece result ≡ piece_spec (slice_index bytes.now 0) bytes.now }
     ensures len { IfSome result (λ p. (0 < p.len) × (p.len ≤ 12)) }
@@ -206,7 +206,7 @@ pub fn piece_at(bytes: &[u8]) -> Option<Piece>
 }
 
 /// How many bytes stand before the closing quote, where each stands for itself.
-pub fn plain_string(bytes: &[u8]) -> Option<usize>
+pub fn len_of_unescaped_string(bytes: &[u8]) -> Option<usize>
     ensures is { IfSome result (λ n. string_from 0 bytes.now ≡ Some (take n bytes.now, n)) }
     ensures within { IfSome result (λ n. n < length bytes.now) }
 {
@@ -219,7 +219,7 @@ pub fn plain_string(bytes: &[u8]) -> Option<usize>
 }
 
 /// How many bytes stand before the closing quote, piece by piece.
-fn string_len(bytes: &[u8]) -> Option<usize>
+fn len_of_escaped_string(bytes: &[u8]) -> Option<usize>
     requires { length bytes.now < 2 ^ 32 }
     ensures is { result ≡ option_map (λ s. s.1) (string_from 0 bytes.now) }
     ensures within { IfSome result (λ n. n < length bytes.now) }
@@ -229,33 +229,33 @@ fn string_len(bytes: &[u8]) -> Option<usize>
         if bytes[at] == b'"' {
             return Some(at);
         }
-        let piece = piece_at(bytes_from(bytes, at))?;
+        let piece = decode_string_piece_at(bytes_from(bytes, at))?;
         at += piece.len;
     }
     None
 }
 
 /// How many bytes stand before the closing quote.
-fn closed_len(bytes: &[u8]) -> Option<usize>
+fn len_before_closing_quote(bytes: &[u8]) -> Option<usize>
     requires { length bytes.now < 2 ^ 32 }
     ensures is { result ≡ option_map (λ s. s.1) (string_from 0 bytes.now) }
     ensures within { IfSome result (λ n. n < length bytes.now) }
 {
-    match plain_string(bytes) {
+    match len_of_unescaped_string(bytes) {
         Some(len) => Some(len),
-        None => string_len(bytes),
+        None => len_of_escaped_string(bytes),
     }
 }
 
 /// The string behind an opening quote, and how many bytes it has.
-pub fn quoted_at(bytes: &[u8]) -> Option<(Quoted<'_>, usize)>
+pub fn quoted_string_at(bytes: &[u8]) -> Option<(Quoted<'_>, usize)>
     requires { length bytes.now < 2 ^ 32 }
     ensures some { IfSome result (λ q. string_of bytes.now ≡ Some (said q.0.bytes.now, q.1)) }
     ensures none { IfNone result (string_of bytes.now ≡ None) }
     ensures within { IfSome result (λ q. q.1 < length bytes.now) }
     ensures bytes { IfSome result (λ q. q.0.bytes.now ≡ bytes.now) }
 {
-    let len = closed_len(bytes)?;
+    let len = len_before_closing_quote(bytes)?;
     match std::str::from_utf8(&bytes[..len]) {
         Ok(_) => Some((Quoted { bytes }, len)),
         Err(_) => None,
@@ -267,13 +267,13 @@ pub fn quoted_or_empty(bytes: &[u8]) -> Quoted<'_>
     requires { length bytes.now < 2 ^ 32 }
     ensures { said result.bytes.now ≡ said bytes.now }
 {
-    let Some((quoted, _)) = quoted_at(bytes) else {
+    let Some((quoted, _)) = quoted_string_at(bytes) else {
         return Quoted::empty();
     };
     quoted
 }
 
-fn push_said(text: &mut Vec<u8>, said: Said) -> Result<(), AllocError>
+fn push_decoded_piece(text: &mut Vec<u8>, said: Said) -> Result<(), AllocError>
     ensures { OnOk result (text.new.items ≡ text.old.items ++ said_by said) }
 {
     match said {
@@ -289,17 +289,17 @@ fn push_said(text: &mut Vec<u8>, said: Said) -> Result<(), AllocError>
 }
 
 /// What a string says, piece by piece.
-fn joined_pieces(alloc: Global, quoted: Quoted<'_>) -> Result<String, AllocError>
+fn decode_escaped_string(alloc: Global, quoted: Quoted<'_>) -> Result<String, AllocError>
     ensures { IfOk result (λ text. string_bytes text ≡ said quoted.entry.bytes.now) }
 {
     let bytes = quoted.bytes;
     let mut text = Vec::new(alloc);
     let mut at = 0;
     'pieces: while at < bytes.len() && bytes[at] != b'"' {
-        let Some(piece) = piece_at(bytes_from(bytes, at)) else {
+        let Some(piece) = decode_string_piece_at(bytes_from(bytes, at)) else {
             unreachable!();
         };
-        push_said(&mut text, piece.said)?;
+        push_decoded_piece(&mut text, piece.said)?;
         at += piece.len;
     }
     text.shrink_to_fit();
@@ -307,11 +307,11 @@ fn joined_pieces(alloc: Global, quoted: Quoted<'_>) -> Result<String, AllocError
 }
 
 /// What a string says, without room to spare.
-pub fn text_of(alloc: Global, quoted: Quoted<'_>) -> Result<String, AllocError>
+pub fn decode_quoted_string(alloc: Global, quoted: Quoted<'_>) -> Result<String, AllocError>
     ensures { IfOk result (λ text. string_bytes text ≡ said quoted.entry.bytes.now) }
 {
-    let Some(len) = plain_string(quoted.bytes) else {
-        return joined_pieces(alloc, quoted);
+    let Some(len) = len_of_unescaped_string(quoted.bytes) else {
+        return decode_escaped_string(alloc, quoted);
     };
     match std::str::from_utf8(&quoted.bytes[..len]) {
         Ok(text) => String::from_str(alloc, text),

@@ -12,11 +12,11 @@ ghost use Rattle.text_tokens.specs.Goes.{goes};
 ghost use Rattle.text_tokens.specs.Stands.{RefersTo, number_run};
 
 use crate::bytes::{bytes_from, letters_len, number_len};
-use crate::number::{Numeral, numeral_in, short_number};
+use crate::number::{Numeral, parse_number_bytes, parse_short_number};
 use crate::number_run::NumberRun;
 use crate::quoted::Quoted;
 use crate::small::SmallNumber;
-use crate::strings::quoted_at;
+use crate::strings::quoted_string_at;
 
 /// A value that is one token, apart from strings.
 #[derive(Clone, Copy)]
@@ -61,13 +61,13 @@ pub fn is_blank(b: u8) -> bool
 }
 
 /// The token of a run of bytes of a number.
-fn number_in(run: &[u8]) -> Token<'_>
+fn token_of_number_bytes(run: &[u8]) -> Token<'_>
     requires { length run.now < 2 ^ 30 }
     ensures is { token_of result ≡ number_of run.now }
     ensures goes { goes (token_of result) ≡ true }
     ensures refers { (behind : List ℕ) → RefersTo result behind run.now }
 {
-    match numeral_in(run) {
+    match parse_number_bytes(run) {
         Numeral::Number(number) => match SmallNumber::of(number) {
             Some(small) => Token::Word(Word::Number(small)),
             None => Token::Word(Word::LargeNumber(NumberRun { bytes: run })),
@@ -87,11 +87,11 @@ fn number_at(bytes: &[u8]) -> (Token<'_>, usize)
     ensures within { result.1 ≤ length bytes.now }
     ensures refers { (behind : List ℕ) → RefersTo result.0 behind (number_run bytes.now) }
 {
-    if let Some((small, len)) = short_number(bytes) {
+    if let Some((small, len)) = parse_short_number(bytes) {
         return (Token::Word(Word::Number(small)), len);
     }
     let len = number_len(bytes);
-    (number_in(&bytes[..len]), len)
+    (token_of_number_bytes(&bytes[..len]), len)
 }
 
 fn word_at(bytes: &[u8]) -> (Token<'_>, usize)
@@ -123,7 +123,7 @@ fn string_at(bytes: &[u8]) -> (Token<'_>, usize)
     ensures within { result.1 ≤ 1 + length bytes.now }
     ensures refers { (run : List ℕ) → RefersTo result.0 bytes.now run }
 {
-    match quoted_at(bytes) {
+    match quoted_string_at(bytes) {
         Some((quoted, len)) => (Token::Text(quoted), len + 2),
         None => (Token::Bad, 1),
     }
@@ -131,7 +131,7 @@ fn string_at(bytes: &[u8]) -> (Token<'_>, usize)
 
 /// The token of a byte that is one by itself.
 #[tactic(auto, unfolding(crate::specs::Tokens::token_at))]
-pub fn mark_token(byte: u8) -> Option<Token<'static>>
+pub fn punctuation_token(byte: u8) -> Option<Token<'static>>
     ensures is { IfSome result
         (λ t. (bytes : List ℕ) → (token_of t, 1) ≡ token_spec byte bytes) }
     ensures shown { IfSome result (λ t. blank byte ≡ false) }
@@ -161,7 +161,7 @@ pub fn token_at(bytes: &[u8]) -> (Token<'_>, usize)
     ensures goes { goes (token_of result.0) ≡ true }
     ensures refers { RefersTo result.0 (drop 1 bytes.now) (number_run bytes.now) }
 {
-    if let Some(token) = mark_token(bytes[0]) {
+    if let Some(token) = punctuation_token(bytes[0]) {
         return (token, 1);
     }
     match bytes[0] {

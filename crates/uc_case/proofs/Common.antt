@@ -18,7 +18,7 @@ unfoldable pub use Rattle.uc_field.specs.Forms.{amount, time_within, full}
 unfoldable pub use Rattle.uc_text.specs.Inside.{value_under}
 pub use Rattle.uc_case.specs.Kept.{IsRange, AreRamps, IsPast, AreUnitLists}
 pub use Rattle.uc_case.specs.Kept.{AreNeeds, AreAllUnits}
-pub use Rattle.uc_case.specs.Laws.{OneCase}
+pub use Rattle.uc_case.specs.Laws.{CaseFileHasOneValueOrOneFault}
 pub use Rattle.uc_field.specs.Sites.{site}
 pub use Rattle.uc_case.specs.Tables.{first_crossed, UnitLists, joined_unit}
 unfoldable pub use Rattle.uc_field.specs.Lists.{powers}

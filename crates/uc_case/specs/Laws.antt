@@ -5,6 +5,6 @@ use Rattle.uc_case.specs.CaseFiles.{IsCaseOf}
 use Rattle.uc_text.specs.Files.{FileFault}
 use Rattle.uc_field.specs.declared.fault.FieldFault.{FieldFault}
 
-abbrev pub OneCase : Type 0
-OneCase = (bytes : List ℕ) (r s : Result Market (FileFault FieldFault))
+abbrev pub CaseFileHasOneValueOrOneFault : Type 0
+CaseFileHasOneValueOrOneFault = (bytes : List ℕ) (r s : Result Market (FileFault FieldFault))
     → IsCaseOf bytes r → IsCaseOf bytes s → r ≡ s

@@ -8,7 +8,7 @@ ghost use Rattle.uc_text.specs.Given.{Gives};
 ghost use Rattle.uc_case.specs.Tables.{bid_unit};
 
 use std::alloc::Global;
-use uc_field::blocks::read_block_lists;
+use uc_field::blocks::read_demand_bid_blocks;
 use uc_field::fault::Site;
 use uc_field::forms::{FieldStop, members_of};
 use uc_field::keys::Keys;
@@ -28,6 +28,6 @@ pub fn read_bid(alloc: Global, at: Site, branch: Branch<'_>, periods: u32) -> Re
         at,
         members: members_of(alloc, at, branch)?,
     };
-    let blocks = read_block_lists(alloc, &u, periods)?;
+    let blocks = read_demand_bid_blocks(alloc, &u, periods)?;
     Ok(Bid { blocks })
 }

@@ -12,7 +12,7 @@ ghost use Rattle.uc_field.specs.Forms.{keys, key, key_or_none};
 ghost use Rattle.uc_case.specs.Cases.{thermal, renewable, units, bids, whole, horizon, needs};
 ghost use Rattle.uc_case.specs.Cases.{all_units, no_unit, joined_case, keyed_case, case_of};
 
-use crate::listed::{read_units, unit_site};
+use crate::listed::{fault_site_of_unit, read_units};
 use crate::parts::{Needs, Units};
 use std::alloc::Global;
 use uc_field::fault::{CaseCode, Field, Kind};
@@ -108,7 +108,7 @@ fn read_horizon(c: &Keys) -> Result<u32, FieldStop>
 }
 
 #[tactic(auto, unfolding(crate::specs::Cases::needs))]
-fn read_needs(alloc: Global, c: &Keys, periods: u32) -> Result<Needs, FieldStop>
+fn read_demand_and_reserves(alloc: Global, c: &Keys, periods: u32) -> Result<Needs, FieldStop>
     requires { periods ≤ MOST_PERIODS }
     ensures fits { IfOk result (λ n. AreNeeds periods (needs_of n)) }
     ensures value { Gives needs_of result
@@ -146,13 +146,13 @@ fn case_of_parts(periods: u32, needs: Needs, units: Units) -> Case
 }
 
 #[tactic(auto, unfolding(crate::specs::Cases::keyed_case))]
-fn read_keyed_case(alloc: Global, c: &Keys) -> Result<Case, FieldStop>
+fn read_case_from_fields(alloc: Global, c: &Keys) -> Result<Case, FieldStop>
     requires { c.now.at ≡ whole }
     ensures { Gives market_of result
         (keyed_case (keys c.now.at (member_views c.now.members.items))) }
 {
     let periods = read_horizon(c)?;
-    let needs = read_needs(alloc, c, periods)?;
+    let needs = read_demand_and_reserves(alloc, c, periods)?;
     let units = read_all_units(alloc, c, periods)?;
     if lacks_units(&units) {
         return Err(
@@ -168,10 +168,10 @@ fn read_keyed_case(alloc: Global, c: &Keys) -> Result<Case, FieldStop>
 pub fn case_of_json_tree(alloc: Global, root: Branch<'_>) -> Result<Case, FieldStop>
     ensures { Gives market_of result (case_of (view root.entry)) }
 {
-    let at = unit_site(Field::Whole, Kind::Case, 0);
+    let at = fault_site_of_unit(Field::Whole, Kind::Case, 0);
     let c = Keys {
         at,
         members: members_of(alloc, at, root)?,
     };
-    read_keyed_case(alloc, &c)
+    read_case_from_fields(alloc, &c)
 }

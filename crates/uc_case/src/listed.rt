@@ -17,7 +17,7 @@ use crate::bids::read_bid;
 use crate::units::{read_renewable, read_unit};
 use plain_lists::lists::{Name, ReservedList};
 use std::alloc::{AllocError, Global};
-use text_tokens::text_of;
+use text_tokens::decode_quoted_string;
 use uc_field::fault::{CaseCode, Field, Kind, Site};
 use uc_field::forms::{FieldStop, object_of};
 use uc_field::limits::UNITS;
@@ -46,7 +46,7 @@ pub trait Listed: Sized {
 }
 
 /// The site of a field of a unit or of the case, outside of its lists.
-pub fn unit_site(field: Field, kind: Kind, unit: u32) -> Site
+pub fn fault_site_of_unit(field: Field, kind: Kind, unit: u32) -> Site
     ensures { result ≡ site field kind unit }
 {
     Site {
@@ -58,10 +58,10 @@ pub fn unit_site(field: Field, kind: Kind, unit: u32) -> Site
 }
 
 /// The key of a member as the name of a unit.
-fn name_of(alloc: Global, member: &Member<'_>) -> Result<Name, AllocError>
+fn unit_name_of_member(alloc: Global, member: &Member<'_>) -> Result<Name, AllocError>
     ensures { IfOk result (λ name. name.items ≡ (member_view member.now).name) }
 {
-    let text = text_of(alloc, member.name)?;
+    let text = decode_quoted_string(alloc, member.name)?;
     Name::copied(alloc, text.as_str())
 }
 
@@ -82,7 +82,7 @@ impl Listed for NamedUnit {
         periods: u32,
     ) -> Result<NamedUnit, FieldStop> {
         let unit = read_unit(alloc, at, member.value, periods)?;
-        let name = name_of(alloc, member)?;
+        let name = unit_name_of_member(alloc, member)?;
         Ok(NamedUnit { name, unit })
     }
 }
@@ -104,7 +104,7 @@ impl Listed for NamedFlat {
         periods: u32,
     ) -> Result<NamedFlat, FieldStop> {
         let flat = read_renewable(alloc, at, member.value, periods)?;
-        let name = name_of(alloc, member)?;
+        let name = unit_name_of_member(alloc, member)?;
         Ok(NamedFlat { name, flat })
     }
 }
@@ -126,7 +126,7 @@ impl Listed for NamedBid {
         periods: u32,
     ) -> Result<NamedBid, FieldStop> {
         let bid = read_bid(alloc, at, member.value, periods)?;
-        let name = name_of(alloc, member)?;
+        let name = unit_name_of_member(alloc, member)?;
         Ok(NamedBid { name, bid })
     }
 }
@@ -150,14 +150,14 @@ fn read_units_into<N: Listed + Drop>(
         (each_member at.field at.kind (N.reading periods) (member_views members.now)) }
 {
     for member in members {
-        let site = unit_site(at.field, at.kind, list.len() as u32 + 1);
+        let site = fault_site_of_unit(at.field, at.kind, list.len() as u32 + 1);
         let unit = N::read(alloc, site, member, periods)?;
         list.push(unit);
     }
     Ok(())
 }
 
-fn read_members<N: Listed + Drop>(
+fn read_members_as_units<N: Listed + Drop>(
     alloc: Global,
     at: Site,
     members: &[Member<'_>],
@@ -198,5 +198,5 @@ pub fn read_units<N: Listed + Drop>(
         return Err(at.stop(CaseCode::TooLarge));
     }
     let members = object.members(alloc)?;
-    read_members(alloc, Site { kind, ..at }, &members, periods)
+    read_members_as_units(alloc, Site { kind, ..at }, &members, periods)
 }

@@ -9,7 +9,7 @@ ghost use Rattle.uc_field.specs.declared.fault.FieldFault.{FieldFault as PlainFa
 
 use crate::cases::case_of_json_tree;
 use crate::fault::CaseFault;
-use crate::laws::one_case;
+use crate::laws::case_file_has_one_value_or_one_fault;
 use std::alloc::Global;
 use uc_model::cases::Case;
 use uc_text::stop::Stop;
@@ -30,7 +30,7 @@ pub fn read_case(alloc: Global, bytes: &[u8]) -> Result<Case, CaseFault>
     ensures only { (r : Result Market (FileFault PlainFault)) → IsCaseOf bytes.now r
         → IfRead market_of result (λ s. s ≡ r) }
 {
-    one_case();
+    case_file_has_one_value_or_one_fault();
     case_of_bytes(alloc, bytes)
 }
 

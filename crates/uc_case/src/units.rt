@@ -19,19 +19,19 @@ use uc_field::fault::{CaseCode, Field, Site};
 use uc_field::forms::{FieldStop, members_of};
 use uc_field::keys::Keys;
 use uc_field::limits::{OUTPUT, POWER, TIME};
-use uc_field::lists::{read_piecewise, read_powers, read_startup};
+use uc_field::lists::{read_cost_curve_points, read_powers, read_startup_lags};
 use uc_field::windows::read_commitment;
 use uc_model::units::{Renewable, Unit};
 use uc_text::Branch;
 
-fn raised_to_one(time: u32) -> u32
+fn period_count_at_least_one(time: u32) -> u32
     ensures { result ≡ at_least_one time }
 {
     if time == 0 { 1 } else { time }
 }
 
 #[tactic(auto, unfolding(crate::specs::Tables::output))]
-fn read_output(u: &Keys) -> Result<Output, FieldStop>
+fn read_must_run_and_power_limits(u: &Keys) -> Result<Output, FieldStop>
     ensures fits { IfOk result (λ o. IsRange o) }
     ensures value { Gives (λ o. o) result
         (output (keys u.now.at (member_views u.now.members.items))) }
@@ -71,13 +71,13 @@ fn read_ramps(u: &Keys) -> Result<Ramps, FieldStop>
 }
 
 #[tactic(auto, unfolding(crate::specs::Tables::past))]
-fn read_past(u: &Keys) -> Result<Past, FieldStop>
+fn read_minimum_times_and_initial_state(u: &Keys) -> Result<Past, FieldStop>
     ensures fits { IfOk result (λ p. IsPast p) }
     ensures value { Gives (λ p. p) result
         (past (keys u.now.at (member_views u.now.members.items))) }
 {
-    let min_up = raised_to_one(u.time(Field::TimeUpMinimum, TIME)?);
-    let min_down = raised_to_one(u.time(Field::TimeDownMinimum, TIME)?);
+    let min_up = period_count_at_least_one(u.time(Field::TimeUpMinimum, TIME)?);
+    let min_down = period_count_at_least_one(u.time(Field::TimeDownMinimum, TIME)?);
     let power = u.power(Field::PowerOutputT0, OUTPUT)?;
     let on = u.flag(Field::UnitOnT0)?;
     let up = u.time(Field::TimeUpT0, TIME)?;
@@ -93,14 +93,19 @@ fn read_past(u: &Keys) -> Result<Past, FieldStop>
 }
 
 #[tactic(auto, unfolding(crate::specs::Tables::unit_lists))]
-fn read_lists(alloc: Global, u: &Keys, output: Output, periods: u32) -> Result<Lists, FieldStop>
+fn read_startup_curve_and_commitment(
+    alloc: Global,
+    u: &Keys,
+    output: Output,
+    periods: u32,
+) -> Result<Lists, FieldStop>
     requires { periods ≤ MOST_PERIODS }
     ensures fits { IfOk result (λ l. AreUnitLists output periods (lists_of l)) }
     ensures value { Gives lists_of result
         (unit_lists periods output (keys u.now.at (member_views u.now.members.items))) }
 {
-    let lags = read_startup(alloc, u)?;
-    let points = read_piecewise(alloc, u, output.least, output.most)?;
+    let lags = read_startup_lags(alloc, u)?;
+    let points = read_cost_curve_points(alloc, u, output.least, output.most)?;
     let window = read_commitment(alloc, u, periods)?;
     Ok(Lists {
         lags,
@@ -141,7 +146,7 @@ fn unit_of_parts(output: Output, ramps: Ramps, past: Past, lists: Lists, periods
 }
 
 #[tactic(auto, unfolding(crate::specs::Tables::keyed_unit))]
-fn read_keyed_unit(alloc: Global, u: &Keys, periods: u32) -> Result<Unit, FieldStop>
+fn read_thermal_unit_from_fields(alloc: Global, u: &Keys, periods: u32) -> Result<Unit, FieldStop>
     requires some { 1 ≤ periods }
     requires horizon { periods ≤ MOST_PERIODS }
     ensures fits { IfOk result (λ u. IsThermalUnit (thermal_of u)
@@ -149,10 +154,10 @@ fn read_keyed_unit(alloc: Global, u: &Keys, periods: u32) -> Result<Unit, FieldS
     ensures value { Gives thermal_of result
         (keyed_unit periods (keys u.now.at (member_views u.now.members.items))) }
 {
-    let output = read_output(u)?;
+    let output = read_must_run_and_power_limits(u)?;
     let ramps = read_ramps(u)?;
-    let past = read_past(u)?;
-    let lists = read_lists(alloc, u, output, periods)?;
+    let past = read_minimum_times_and_initial_state(u)?;
+    let lists = read_startup_curve_and_commitment(alloc, u, output, periods)?;
     Ok(unit_of_parts(output, ramps, past, lists, periods))
 }
 
@@ -174,11 +179,11 @@ pub fn read_unit(
         at,
         members: members_of(alloc, at, branch)?,
     };
-    read_keyed_unit(alloc, &u, periods)
+    read_thermal_unit_from_fields(alloc, &u, periods)
 }
 
 /// The position of the first least power above its greatest, or 0.
-fn first_crossing(least: &[i64], most: &[i64]) -> u32
+fn first_period_of_crossed_power_limits(least: &[i64], most: &[i64]) -> u32
     requires one { length least.now ≤ MOST_PERIODS }
     requires same { length most.now ≡ length least.now }
     ensures { result ≡ first_crossed 1 least.now most.now }
@@ -195,7 +200,7 @@ fn first_crossing(least: &[i64], most: &[i64]) -> u32
 }
 
 #[tactic(auto, unfolding(crate::specs::Tables::keyed_renewable))]
-fn read_keyed_renewable(alloc: Global, u: &Keys, periods: u32) -> Result<Renewable, FieldStop>
+fn read_renewable_from_fields(alloc: Global, u: &Keys, periods: u32) -> Result<Renewable, FieldStop>
     requires some { 1 ≤ periods }
     requires horizon { periods ≤ MOST_PERIODS }
     ensures fits { IfOk result (λ r. IsRenewableUnit (renewable_of r)
@@ -205,7 +210,7 @@ fn read_keyed_renewable(alloc: Global, u: &Keys, periods: u32) -> Result<Renewab
 {
     let least = read_powers(alloc, u, Field::PowerOutputMinimum, periods)?;
     let most = read_powers(alloc, u, Field::PowerOutputMaximum, periods)?;
-    let crossed = first_crossing(least.as_slice(), most.as_slice());
+    let crossed = first_period_of_crossed_power_limits(least.as_slice(), most.as_slice());
     if crossed > 0 {
         return Err(
             u.at.field(Field::PowerOutputMinimum)
@@ -235,5 +240,5 @@ pub fn read_renewable(
         at,
         members: members_of(alloc, at, branch)?,
     };
-    read_keyed_renewable(alloc, &u, periods)
+    read_renewable_from_fields(alloc, &u, periods)
 }

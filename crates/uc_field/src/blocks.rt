@@ -13,18 +13,18 @@ ghost use Rattle.uc_field.specs.Forms.{key, keys, items};
 ghost use Rattle.uc_field.specs.Lists.{block, block_in, period_blocks, blocks};
 
 use crate::fault::{CaseCode, Field, Site};
-use crate::forms::{FieldStop, amount_under, full_list, members_of};
+use crate::forms::{FieldStop, amount_under, list_with_item_per_period, members_of};
 use crate::items::{Item, read_items_up_to};
 use crate::keys::Keys;
 use crate::limits::{BLOCKS, POWER, PRICE};
 use std::alloc::Global;
 use uc_model::limits::POWER_LIMIT;
-use uc_model::money::total_width;
+use uc_model::money::total_block_width;
 use uc_model::units::{Block, BlockLists, Blocks};
 use uc_text::{Branch, Member};
 
 /// Whether a price is above that of the last of these blocks.
-fn is_dearer(before: &[Block], price: i64) -> bool
+fn is_price_above_last_block(before: &[Block], price: i64) -> bool
     ensures { result ≡ last_is (λ (a : PlainBlock). int_lt a.price price) before.now }
 {
     match before.last() {
@@ -36,7 +36,11 @@ fn is_dearer(before: &[Block], price: i64) -> bool
 /// The block of these members, behind other blocks; `BlockOrder` where it is dearer than the one
 /// before it.
 #[tactic(auto, unfolding(crate::specs::Lists::block_in))]
-fn block_of(at: Site, before: &[Block], members: &[Member<'_>]) -> Result<Block, FieldStop>
+fn demand_block_from_members(
+    at: Site,
+    before: &[Block],
+    members: &[Member<'_>],
+) -> Result<Block, FieldStop>
     ensures fits { IfOk result (λ b. IsBlock b) }
     ensures order { IfOk result (λ b. last_is (λ (a : PlainBlock). int_lt a.price b.price)
         before.now ≡ false) }
@@ -44,7 +48,7 @@ fn block_of(at: Site, before: &[Block], members: &[Member<'_>]) -> Result<Block,
 {
     let width = amount_under(at, members, "mw", 3, POWER)?;
     let price = amount_under(at, members, "price", 3, PRICE)?;
-    if is_dearer(before, price) {
+    if is_price_above_last_block(before, price) {
         return Err(at.stop(CaseCode::BlockOrder));
     }
     Ok(Block { width, price })
@@ -64,24 +68,24 @@ impl Item for Block {
         branch: Branch<'_>,
     ) -> Result<Block, FieldStop> {
         let members = members_of(alloc, at, branch)?;
-        block_of(at, before, &members)
+        demand_block_from_members(at, before, &members)
     }
 }
 
 #[tactic(auto, unfolding(crate::specs::Lists::period_blocks), using(crate::proofs::Ordered::no_blocks))]
-fn read_period(alloc: Global, at: Site, branch: Branch<'_>) -> Result<Blocks, FieldStop>
+fn read_blocks_of_period(alloc: Global, at: Site, branch: Branch<'_>) -> Result<Blocks, FieldStop>
     ensures fits { IfOk result (λ bs. IsBlockList bs.items) }
     ensures value { Gives (λ bs. bs.items) result (period_blocks at [] (view branch.entry)) }
 {
     let blocks = read_items_up_to::<Block>(alloc, at, branch, BLOCKS)?;
-    if total_width(blocks.as_slice()) > POWER_LIMIT {
+    if total_block_width(blocks.as_slice()) > POWER_LIMIT {
         return Err(at.stop(CaseCode::TooLarge));
     }
     Ok(blocks)
 }
 
 /// Adds the blocks of each period to a list that is empty and has room for them.
-fn read_blocks_into(
+fn read_blocks_of_periods_into(
     alloc: Global,
     at: Site,
     branches: &[Branch<'_>],
@@ -97,13 +101,17 @@ fn read_blocks_into(
 {
     for branch in branches {
         let site = at.item(lists.len() as u32 + 1);
-        let blocks = read_period(alloc, site, *branch)?;
+        let blocks = read_blocks_of_period(alloc, site, *branch)?;
         lists.push(blocks);
     }
     Ok(())
 }
 
-fn read_periods(alloc: Global, at: Site, branches: &[Branch<'_>]) -> Result<BlockLists, FieldStop>
+fn read_blocks_of_periods(
+    alloc: Global,
+    at: Site,
+    branches: &[Branch<'_>],
+) -> Result<BlockLists, FieldStop>
     requires { length branches.now ≤ MOST_PERIODS }
     ensures count { IfOk result (λ ls. length ls.items ≡ length branches.now) }
     ensures fits { IfOk result (λ ls. All (λ bs. IsBlockList bs) (map items_in ls.items)) }
@@ -111,7 +119,7 @@ fn read_periods(alloc: Global, at: Site, branches: &[Branch<'_>]) -> Result<Bloc
         (items period_blocks at (views branches.now)) }
 {
     let mut lists = BlockLists::make(alloc, branches.len() as u32)?;
-    read_blocks_into(alloc, at, branches, &mut lists)?;
+    read_blocks_of_periods_into(alloc, at, branches, &mut lists)?;
     Ok(lists)
 }
 
@@ -120,7 +128,11 @@ fn read_periods(alloc: Global, at: Site, branches: &[Branch<'_>]) -> Result<Bloc
 /// dearer than the one before it; `TooLarge` where there are too many blocks, or they are wider than
 /// `POWER_LIMIT` together.
 #[tactic(auto, unfolding(crate::specs::Lists::blocks))]
-pub fn read_block_lists(alloc: Global, u: &Keys, periods: u32) -> Result<BlockLists, FieldStop>
+pub fn read_demand_bid_blocks(
+    alloc: Global,
+    u: &Keys,
+    periods: u32,
+) -> Result<BlockLists, FieldStop>
     requires { periods ≤ MOST_PERIODS }
     ensures count { IfOk result (λ ls. length ls.items ≡ periods) }
     ensures fits { IfOk result (λ ls. All (λ bs. IsBlockList bs) (map items_in ls.items)) }
@@ -128,7 +140,7 @@ pub fn read_block_lists(alloc: Global, u: &Keys, periods: u32) -> Result<BlockLi
         (key (keys u.now.at (member_views u.now.members.items)) Field.Blocks (blocks periods)) }
 {
     let at = u.at.field(Field::Blocks);
-    let list = full_list(at, u.value(Field::Blocks)?, periods)?;
+    let list = list_with_item_per_period(at, u.value(Field::Blocks)?, periods)?;
     let branches = list.items(alloc)?;
-    read_periods(alloc, at, &branches)
+    read_blocks_of_periods(alloc, at, &branches)
 }

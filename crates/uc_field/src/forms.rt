@@ -45,7 +45,11 @@ pub fn object_of(at: Site, branch: Branch<'_>) -> Result<ObjectBranch<'_>, Field
 /// The list of an item for each period that a value is; `WrongKind` where it is none, and
 /// `WrongLength` where it has more items or fewer. It takes no memory.
 #[tactic(auto, unfolding(crate::specs::Forms::full))]
-pub fn full_list(at: Site, branch: Branch<'_>, periods: u32) -> Result<ListBranch<'_>, FieldStop>
+pub fn list_with_item_per_period(
+    at: Site,
+    branch: Branch<'_>,
+    periods: u32,
+) -> Result<ListBranch<'_>, FieldStop>
     ensures count { IfOk result (λ l. length (items_in l) ≡ periods) }
     ensures value { Gives items_in result (full periods at (view branch.entry)) }
 {
@@ -126,7 +130,7 @@ pub(crate) fn read_cost(at: Site, branch: Branch<'_>) -> Result<i64, FieldStop>
 /// A number of periods, from 0 to the limit. It is tried in the order `WrongKind`, `NotWhole`,
 /// `TooLarge` in magnitude, `Negative`.
 #[tactic(auto, unfolding(crate::specs::Forms::time_within))]
-pub(crate) fn read_time(at: Site, branch: Branch<'_>, limit: u64) -> Result<u32, FieldStop>
+pub(crate) fn read_period_count(at: Site, branch: Branch<'_>, limit: u64) -> Result<u32, FieldStop>
     requires { limit ≤ MOST_TIME }
     ensures bound { IfOk result (λ n. n ≤ limit) }
     ensures value { Gives (λ n. n) result (time_within limit at (view branch.entry)) }
@@ -193,8 +197,8 @@ pub(crate) fn amount_under(
     }
 }
 
-/// The periods under a key, which must be there, read as `read_time` does.
-pub(crate) fn time_under(
+/// The periods under a key, which must be there, read as `read_period_count` does.
+pub(crate) fn period_count_under(
     at: Site,
     members: &[Member<'_>],
     key: &str,
@@ -206,7 +210,7 @@ pub(crate) fn time_under(
         (part at key.now (time_within limit) (member_views members.now)) }
 {
     match find_member(members, key) {
-        Some(value) => read_time(at, value, limit),
+        Some(value) => read_period_count(at, value, limit),
         None => Err(at.stop(CaseCode::Missing)),
     }
 }

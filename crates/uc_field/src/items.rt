@@ -52,7 +52,7 @@ fn read_items_into<I: Item + Drop>(
     Ok(())
 }
 
-fn read_branches<I: Item + Drop>(
+fn read_json_values_as_items<I: Item + Drop>(
     alloc: Global,
     at: Site,
     branches: &[Branch<'_>],
@@ -81,7 +81,7 @@ pub fn read_items<I: Item + Drop>(
     ensures value { Gives (λ l. l.items) result (each (I.reading at) [] (items_in list.entry)) }
 {
     let branches = list.items(alloc)?;
-    read_branches(alloc, at, &branches)
+    read_json_values_as_items(alloc, at, &branches)
 }
 
 /// The items of a list of at most so many; `TooLarge` where it has more.

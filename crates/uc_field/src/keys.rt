@@ -10,7 +10,7 @@ ghost use Rattle.uc_field.specs.Sites.{key_of, field_at};
 ghost use Rattle.uc_field.specs.Forms.{keys, key, under, flag, power, time_within};
 
 use crate::fault::{Field, Site};
-use crate::forms::{FieldStop, amount_under, read_flag, time_under, value_under};
+use crate::forms::{FieldStop, amount_under, period_count_under, read_flag, value_under};
 use uc_text::inside::find_member;
 use uc_text::{Branch, Member};
 
@@ -67,6 +67,6 @@ impl<'a> Keys<'a> {
             (key (keys self.now.at (member_views self.now.members.items)) field
             (time_within limit)) }
     {
-        time_under(self.at.field(field), &self.members, field.key(), limit)
+        period_count_under(self.at.field(field), &self.members, field.key(), limit)
     }
 }

@@ -15,7 +15,8 @@ ghost use Rattle.uc_field.specs.Lists.{lag_in, point_in, ends_miss};
 
 use crate::fault::{CaseCode, Field, Site};
 use crate::forms::{
-    FieldStop, amount_under, cost_under, full_list, members_of, read_power, time_under,
+    FieldStop, amount_under, cost_under, list_with_item_per_period, members_of, period_count_under,
+    read_power,
 };
 use crate::items::{Item, read_items, read_items_up_to};
 use crate::keys::Keys;
@@ -26,7 +27,7 @@ use uc_model::units::{Lag, Lags, Point, Points};
 use uc_text::{Branch, Member};
 
 /// Whether a lag is below the last of these.
-fn is_sooner(before: &[Lag], lag: u32) -> bool
+fn is_lag_below_last(before: &[Lag], lag: u32) -> bool
     ensures { result ≡ last_is (λ (b : PlainLag). nat_lt lag b.lag) before.now }
 {
     match before.last() {
@@ -37,15 +38,19 @@ fn is_sooner(before: &[Lag], lag: u32) -> bool
 
 /// The lag of these members, behind other lags; `LagOrder` where it is below the one before it.
 #[tactic(auto, unfolding(crate::specs::Lists::lag_in))]
-fn lag_of(at: Site, before: &[Lag], members: &[Member<'_>]) -> Result<Lag, FieldStop>
+fn startup_lag_from_members(
+    at: Site,
+    before: &[Lag],
+    members: &[Member<'_>],
+) -> Result<Lag, FieldStop>
     ensures fits { IfOk result (λ l. IsLag l) }
     ensures order { IfOk result (λ l. last_is (λ (b : PlainLag). nat_lt l.lag b.lag) before.now
         ≡ false) }
     ensures value { Gives (λ l. l) result (lag_in at before.now (member_views members.now)) }
 {
-    let lag = time_under(at, members, "lag", TIME)?;
+    let lag = period_count_under(at, members, "lag", TIME)?;
     let cost = amount_under(at, members, "cost", 6, COST)?;
-    if is_sooner(before, lag) {
+    if is_lag_below_last(before, lag) {
         return Err(at.stop(CaseCode::LagOrder));
     }
     Ok(Lag { lag, cost })
@@ -60,14 +65,14 @@ impl Item for Lag {
     fn read(alloc: Global, at: Site, before: &[Lag], branch: Branch<'_>) -> Result<Lag, FieldStop> {
         let site = at.item(before.len() as u32 + 1);
         let members = members_of(alloc, site, branch)?;
-        lag_of(site, before, &members)
+        startup_lag_from_members(site, before, &members)
     }
 }
 
 /// The lags of a thermal unit and their costs, at most `LAGS`. `LagOrder` where a lag is below the
 /// one before it.
 #[tactic(auto, unfolding(crate::specs::Lists::startup), using(crate::proofs::Ordered::no_lags))]
-pub fn read_startup(alloc: Global, u: &Keys) -> Result<Lags, FieldStop>
+pub fn read_startup_lags(alloc: Global, u: &Keys) -> Result<Lags, FieldStop>
     ensures count { IfOk result (λ ls. length ls.items ≤ MOST_LAGS) }
     ensures fits { IfOk result (λ ls. AreLags ls.items) }
     ensures value { Gives (λ ls. ls.items) result
@@ -78,7 +83,7 @@ pub fn read_startup(alloc: Global, u: &Keys) -> Result<Lags, FieldStop>
 }
 
 /// Whether kilowatts are below those of the last of these points.
-fn is_lower(before: &[Point], mw: i64) -> bool
+fn is_power_below_last_point(before: &[Point], mw: i64) -> bool
     ensures { result ≡ last_is (λ (b : PlainPoint). int_lt mw b.at) before.now }
 {
     match before.last() {
@@ -90,7 +95,11 @@ fn is_lower(before: &[Point], mw: i64) -> bool
 /// The point of these members, behind other points; `CurveOrder` where it is below the one before
 /// it.
 #[tactic(auto, unfolding(crate::specs::Lists::point_in))]
-fn point_of(at: Site, before: &[Point], members: &[Member<'_>]) -> Result<Point, FieldStop>
+fn cost_point_from_members(
+    at: Site,
+    before: &[Point],
+    members: &[Member<'_>],
+) -> Result<Point, FieldStop>
     ensures fits { IfOk result (λ p. IsPoint p) }
     ensures order { IfOk result (λ p. last_is (λ (b : PlainPoint). int_lt p.at b.at) before.now
         ≡ false) }
@@ -98,7 +107,7 @@ fn point_of(at: Site, before: &[Point], members: &[Member<'_>]) -> Result<Point,
 {
     let mw = amount_under(at, members, "mw", 3, POWER)?;
     let cost = cost_under(at, members, "cost")?;
-    if is_lower(before, mw) {
+    if is_power_below_last_point(before, mw) {
         return Err(at.stop(CaseCode::CurveOrder));
     }
     Ok(Point { at: mw, cost })
@@ -118,7 +127,7 @@ impl Item for Point {
     ) -> Result<Point, FieldStop> {
         let site = at.item(before.len() as u32 + 1);
         let members = members_of(alloc, site, branch)?;
-        point_of(site, before, &members)
+        cost_point_from_members(site, before, &members)
     }
 }
 
@@ -141,7 +150,12 @@ fn curve_misses_ends(low: i64, high: i64, points: &[Point]) -> bool
 /// its greatest kilowatts. `CurveOrder` where a point is below the one before it, and `CurveEnds`
 /// where the points don't reach from one to the other.
 #[tactic(auto, unfolding(crate::specs::Lists::piecewise), using(crate::proofs::Ordered::no_points))]
-pub fn read_piecewise(alloc: Global, u: &Keys, low: i64, high: i64) -> Result<Points, FieldStop>
+pub fn read_cost_curve_points(
+    alloc: Global,
+    u: &Keys,
+    low: i64,
+    high: i64,
+) -> Result<Points, FieldStop>
     ensures fits { IfOk result (λ ps. IsPointList ps.items low high) }
     ensures value { Gives (λ ps. ps.items) result
         (key (keys u.now.at (member_views u.now.members.items)) Field.PiecewiseProduction
@@ -186,6 +200,6 @@ pub fn read_powers(
         (key (keys u.now.at (member_views u.now.members.items)) field (powers periods)) }
 {
     let at = u.at.field(field);
-    let list = full_list(at, u.value(field)?, periods)?;
+    let list = list_with_item_per_period(at, u.value(field)?, periods)?;
     read_items::<i64>(alloc, at, list)
 }

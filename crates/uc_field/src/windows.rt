@@ -18,7 +18,7 @@ use uc_text::Branch;
 use uc_text::inside::flag_of_number;
 
 /// The mark of a period that the number 1 keeps on and the number 0 off.
-fn mark_set(number: Decimal) -> Option<Mark>
+fn commitment_mark_of_number(number: Decimal) -> Option<Mark>
     ensures { result ≡ mark_in (scalar (number_spec number)) }
 {
     match flag_of_number(number) {
@@ -28,13 +28,13 @@ fn mark_set(number: Decimal) -> Option<Mark>
     }
 }
 
-fn mark_of(branch: Branch<'_>) -> Option<Mark>
+fn commitment_mark_of_value(branch: Branch<'_>) -> Option<Mark>
     ensures { result ≡ mark_in (view branch.entry) }
 {
     if branch.is_null() {
         return Some(Mark::Free);
     }
-    mark_set(branch.number()?)
+    commitment_mark_of_number(branch.number()?)
 }
 
 impl Item for Mark {
@@ -48,7 +48,7 @@ impl Item for Mark {
         before: &[Mark],
         branch: Branch<'_>,
     ) -> Result<Mark, FieldStop> {
-        match mark_of(branch) {
+        match commitment_mark_of_value(branch) {
             Some(mark) => Ok(mark),
             None => Err(at.item(before.len() as u32 + 1).stop(CaseCode::WindowShape)),
         }
@@ -57,7 +57,7 @@ impl Item for Mark {
 
 /// The marks of a window; `WindowShape` where the value is no list of an item for each period.
 #[tactic(auto, unfolding(crate::specs::Lists::window, crate::specs::Lists::window_items))]
-fn read_window(
+fn read_commitment_marks(
     alloc: Global,
     at: Site,
     branch: Branch<'_>,
@@ -87,7 +87,12 @@ pub fn read_commitment(alloc: Global, u: &Keys, periods: u32) -> Result<Marks, F
         (commitment periods)) }
 {
     match u.find(Field::Commitment) {
-        Some(branch) => read_window(alloc, u.at.field(Field::Commitment), branch, periods),
+        Some(branch) => read_commitment_marks(
+            alloc,
+            u.at.field(Field::Commitment),
+            branch,
+            periods,
+        ),
         None => Ok(Marks::filled(alloc, periods, Mark::Free)?),
     }
 }

@@ -10,6 +10,6 @@ abbrev pub SomeMixture : Type 0
 SomeMixture = (m : Market) (bytes : List ℕ)
     → (r : Result MixtureLists (FileFault ShareFault)) × IsMixtureFileOf m bytes r
 
-abbrev pub OneMixture : Type 0
-OneMixture = (m : Market) (bytes : List ℕ) (r s : Result MixtureLists (FileFault ShareFault))
+abbrev pub MixtureFileHasOneValueOrOneFault : Type 0
+MixtureFileHasOneValueOrOneFault = (m : Market) (bytes : List ℕ) (r s : Result MixtureLists (FileFault ShareFault))
     → IsMixtureFileOf m bytes r → IsMixtureFileOf m bytes s → r ≡ s

@@ -12,12 +12,12 @@ ghost use Rattle.uc_mixture.specs.Tables.{entries as entries_spec, unit_entries}
 ghost use Rattle.uc_mixture.specs.Tables.{some_list as some_list_spec};
 
 use crate::fault::{ShareCode, ShareSite, ShareStop};
-use crate::weights::{sum_to, weight_at};
+use crate::weights::{do_weights_sum_to, weight_of_json_value};
 use gap_proof::{Entries, Entry};
 use std::alloc::Global;
 use uc_plan::fault::ShapeCode;
-use uc_plan::shapes::{ThermalLists, thermal_lists};
-use uc_plan::units::read_lists;
+use uc_plan::shapes::{ThermalLists, lists_of_thermal_schedule};
+use uc_plan::units::read_thermal_schedule_lists;
 use uc_text::inside::find_member;
 use uc_text::stop::Stop;
 use uc_text::{Branch, ListBranch, Member};
@@ -34,14 +34,17 @@ pub struct Frame {
 
 /// The weight and the lists of an entry, where each is among its members, and each list has an item
 /// for each period.
-fn entry_parts<'a>(members: &[Member<'a>], periods: u32) -> Option<(Branch<'a>, ThermalLists<'a>)>
+fn weight_and_lists_of_entry<'a>(
+    members: &[Member<'a>],
+    periods: u32,
+) -> Option<(Branch<'a>, ThermalLists<'a>)>
     ensures full { IfSome result (λ p. AreFull periods (lists_of p.1)) }
     ensures value { option_map (λ p. (view p.0, lists_of p.1)) result
         ≡ entry_parts_spec periods (member_views members.now) }
 {
     match (
         find_member(members, "weight"),
-        thermal_lists(members, periods),
+        lists_of_thermal_schedule(members, periods),
     ) {
         (Some(heavy), Some(lists)) => Some((heavy, lists)),
         _ => None,
@@ -64,10 +67,15 @@ fn read_weighted_entry(
     ensures value { Gives entry_of result
         (weighed frame at (view heavy.entry) (lists_of lists.entry)) }
 {
-    let Some(weight) = weight_at(heavy, 0, frame.whole) else {
+    let Some(weight) = weight_of_json_value(heavy, 0, frame.whole) else {
         return Err(at.stop(ShareCode::Weight));
     };
-    match read_lists(alloc, at.shape_site(), lists, frame.periods) {
+    match read_thermal_schedule_lists(
+        alloc,
+        at.schedule_fault_site_of_unit(),
+        lists,
+        frame.periods,
+    ) {
         Ok(response) => Ok(Entry { weight, response }),
         Err(stop) => Err(at.within(stop)),
     }
@@ -77,7 +85,7 @@ fn read_weighted_entry(
 /// period, then `Weight` where its weight isn't a whole number from 0 to the whole, and then
 /// `PlanNumber` at the first wrong item.
 #[tactic(auto, unfolding(crate::specs::Tables::entry))]
-fn read_entry(
+fn read_mixture_entry(
     alloc: Global,
     at: ShareSite,
     frame: Frame,
@@ -91,7 +99,7 @@ fn read_entry(
         return Err(at.stop(ShareCode::Shape(ShapeCode::PlanShape)));
     };
     let members = object.members(alloc)?;
-    match entry_parts(&members, frame.periods) {
+    match weight_and_lists_of_entry(&members, frame.periods) {
         Some((heavy, lists)) => read_weighted_entry(alloc, at, frame, heavy, lists),
         None => Err(at.stop(ShareCode::Shape(ShapeCode::PlanShape))),
     }
@@ -114,7 +122,7 @@ fn read_entries(
     let mut entries = Entries::make(alloc, count)?;
     for branch in branches {
         let site = at.entry(entries.len() as u32 + 1);
-        let entry = read_entry(alloc, site, frame, *branch)?;
+        let entry = read_mixture_entry(alloc, site, frame, *branch)?;
         entries.push(entry);
     }
     Ok(entries)
@@ -146,7 +154,7 @@ pub fn read_unit(
     };
     let branches = list.items(alloc)?;
     let entries = read_entries(alloc, at, frame, &branches)?;
-    if !sum_to(entries.as_slice(), frame.whole) {
+    if !do_weights_sum_to(entries.as_slice(), frame.whole) {
         return Err(at.stop(ShareCode::Weight));
     }
     Ok(entries)

@@ -93,7 +93,7 @@ pub type ShareStop = Stop<ShareFault>;
 
 impl ShareSite {
     /// The file as a whole.
-    pub fn of_file() -> ShareSite
+    pub fn fault_site_of_file() -> ShareSite
         ensures { result ≡ site_of_file }
     {
         ShareSite {
@@ -104,7 +104,7 @@ impl ShareSite {
     }
 
     /// A thermal unit as a whole.
-    pub fn of_unit(unit: u32) -> ShareSite
+    pub fn fault_site_of_thermal_unit(unit: u32) -> ShareSite
         ensures { result ≡ site_of_unit unit }
     {
         ShareSite {
@@ -122,7 +122,7 @@ impl ShareSite {
     }
 
     /// The site of its unit in a schedule.
-    pub fn shape_site(self) -> ShapeSite
+    pub fn schedule_fault_site_of_unit(self) -> ShapeSite
         ensures { result ≡ shape_site_of self }
     {
         ShapeSite {

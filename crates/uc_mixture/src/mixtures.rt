@@ -15,7 +15,7 @@ ghost use Rattle.uc_mixture.specs.Views.{head_of, names_of};
 use crate::entries::Frame;
 use crate::fault::{ShareCode, ShareSite, ShareStop};
 use crate::units::read_units;
-use crate::weights::weight_at;
+use crate::weights::weight_of_json_value;
 use gap_proof::Mixture;
 use std::alloc::Global;
 use uc_model::cases::Case;
@@ -38,7 +38,7 @@ struct Head<'a> {
 }
 
 /// The weight and the units of a mixture, where each is among its members.
-fn mixture_members<'a>(members: &[Member<'a>]) -> Option<(Branch<'a>, ObjectBranch<'a>)>
+fn weight_and_units_of_mixture<'a>(members: &[Member<'a>]) -> Option<(Branch<'a>, ObjectBranch<'a>)>
     ensures { option_map (λ p. (view p.0, members_in p.1)) result
         ≡ head_parts_spec (member_views members.now) }
 {
@@ -54,27 +54,30 @@ fn mixture_members<'a>(members: &[Member<'a>]) -> Option<(Branch<'a>, ObjectBran
 /// `PlanShape`, at the file as a whole, where the value isn't an object with a weight and an object
 /// of units, and then `Weight` where the weight isn't a whole number from 1 to `MOST_WHOLE`.
 #[tactic(auto, unfolding(crate::specs::Tables::head))]
-fn read_head<'a>(alloc: Global, root: Branch<'a>) -> Result<Head<'a>, ShareStop>
+fn read_weight_and_units_of_mixture<'a>(
+    alloc: Global,
+    root: Branch<'a>,
+) -> Result<Head<'a>, ShareStop>
     ensures whole { IfOk result (λ h. IsFrom (pos 1) most_whole h.whole) }
     ensures value { Gives head_of result (head (view root.entry)) }
 {
-    let at = ShareSite::of_file();
+    let at = ShareSite::fault_site_of_file();
     let shape = ShareCode::Shape(ShapeCode::PlanShape);
     let Some(object) = root.object() else {
         return Err(at.stop(shape));
     };
     let members = object.members(alloc)?;
-    let Some((heavy, thermal)) = mixture_members(&members) else {
+    let Some((heavy, thermal)) = weight_and_units_of_mixture(&members) else {
         return Err(at.stop(shape));
     };
-    match weight_at(heavy, 1, MOST_WHOLE) {
+    match weight_of_json_value(heavy, 1, MOST_WHOLE) {
         Some(whole) => Ok(Head { whole, thermal }),
         None => Err(at.stop(ShareCode::Weight)),
     }
 }
 
 /// Refuses the first member whose name isn't that of a thermal unit of the case.
-fn check_units(
+fn check_unit_names_of_mixture(
     alloc: Global,
     object: ObjectBranch<'_>,
     units: &[NamedUnit],
@@ -84,7 +87,7 @@ fn check_units(
 {
     match check_names(alloc, Kind::Thermal, object, units) {
         Ok(()) => Ok(()),
-        Err(stop) => Err(ShareSite::of_file().within(stop)),
+        Err(stop) => Err(ShareSite::fault_site_of_file().within(stop)),
     }
 }
 
@@ -98,9 +101,9 @@ pub fn mixture_of_json_tree(
     ensures shape { IfOk result (λ x. HasMixtureShape (market_of case.now) (mixture_of x)) }
     ensures value { Gives mixture_of result (mixture_in (market_of case.now) (view root.entry)) }
 {
-    let head = read_head(alloc, root)?;
+    let head = read_weight_and_units_of_mixture(alloc, root)?;
     let units = case.thermal.as_slice();
-    check_units(alloc, head.thermal, units)?;
+    check_unit_names_of_mixture(alloc, head.thermal, units)?;
     let frame = Frame {
         periods: case.periods,
         whole: head.whole,

@@ -8,7 +8,7 @@ ghost use Rattle.uc_mixture.specs.MixtureFiles.{IsMixtureFileOf, IfRead};
 ghost use Rattle.uc_mixture.specs.declared.fault.ShareFault.{ShareFault as PlainFault};
 
 use crate::fault::MixtureFault;
-use crate::laws::one_mixture;
+use crate::laws::mixture_file_has_one_value_or_one_fault;
 use crate::mixtures::mixture_of_json_tree;
 use gap_proof::Mixture;
 use std::alloc::Global;
@@ -35,7 +35,7 @@ pub fn read_mixture(alloc: Global, case: &Case, bytes: &[u8]) -> Result<Mixture,
         → IsMixtureFileOf (market_of case.now) bytes.now r
         → IfRead mixture_of result (λ s. s ≡ r) }
 {
-    one_mixture();
+    mixture_file_has_one_value_or_one_fault();
     mixture_of_bytes(alloc, case, bytes)
 }
 

@@ -19,11 +19,11 @@ use gap_proof::{Entries, EntryLists};
 use std::alloc::Global;
 use uc_model::units::NamedUnit;
 use uc_plan::fault::ShapeCode;
-use uc_plan::lookup::{Values, values_of};
+use uc_plan::lookup::{Values, values_of_object_by_key};
 use uc_text::{Branch, ObjectBranch};
 
 #[tactic(auto, unfolding(crate::specs::Tables::named))]
-fn read_named(
+fn read_mixture_of_named_unit(
     alloc: Global,
     values: &Values<'_>,
     at: ShareSite,
@@ -59,11 +59,11 @@ pub fn read_units(
         (units_spec frame (members_in object.entry)
         (names_of units.now)) }
 {
-    let values = values_of(alloc, object)?;
+    let values = values_of_object_by_key(alloc, object)?;
     let mut lists = EntryLists::make(alloc, units.len() as u32)?;
     for unit in units {
-        let at = ShareSite::of_unit(lists.len() as u32 + 1);
-        let entries = read_named(alloc, &values, at, unit.name.as_str(), frame)?;
+        let at = ShareSite::fault_site_of_thermal_unit(lists.len() as u32 + 1);
+        let entries = read_mixture_of_named_unit(alloc, &values, at, unit.name.as_str(), frame)?;
         lists.push(entries);
     }
     Ok(lists)

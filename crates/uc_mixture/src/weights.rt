@@ -31,7 +31,7 @@ fn weight_from_decimal(d: Decimal, least: i64, most: i64) -> Option<i64>
 }
 
 /// The whole number that a value is, if it is one from `least` to `most`.
-pub fn weight_at(branch: Branch<'_>, least: i64, most: i64) -> Option<i64>
+pub fn weight_of_json_value(branch: Branch<'_>, least: i64, most: i64) -> Option<i64>
     requires least { pos 0 ≤ℤ least }
     requires most { IsFrom (pos 0) (pos (10 ^ 18)) most }
     ensures fits { IfSome result (λ w. IsFrom least most w) }
@@ -55,7 +55,7 @@ fn sum_of_weights(entries: &[Entry]) -> i128
 }
 
 /// Whether the weights of the entries, each from 0 to the greatest of a mixture, sum to the whole.
-pub fn sum_to(entries: &[Entry], whole: i64) -> bool
+pub fn do_weights_sum_to(entries: &[Entry], whole: i64) -> bool
     requires { AreLow (map entry_of entries.now) }
     ensures { result ≡ int_eq (weight_sum (map entry_of entries.now)) whole }
 {

@@ -4,7 +4,8 @@ use Rattle.uc_model.proofs.Common.{pos, ◌+ℤ◌, ◌-ℤ◌, ◌*ℤ◌, ◌�
 use Rattle.uc_model.proofs.Common.{subst, arith, *ℤ_comm, *ℤ-zero, cases_lt, ints, clamps, length-reverse}
 use Rattle.uc_model.proofs.Common.{get_or-reverse, get_or_past, int_min, All, find, option_map_or, reverse, nat_le}
 use Rattle.uc_model.proofs.Common.{slice_get, slice_index, slice_index_or, Block, Lag, Point, GivesWithin}
-use Rattle.uc_model.proofs.Common.{StartCostsAreWithin, PowerCostsAreWithin, OutputsAreWithin, CostsAreWithin}
+use Rattle.uc_model.proofs.Common.{StartCostsAreWithin, PowerCostsAreWithin, OutputsAreWithin}
+use Rattle.uc_model.proofs.Common.{UnitScheduleCostsAreWithin}
 use Rattle.uc_model.proofs.Common.{EarningsAreWithin, ThermalUnit, BidUnit, AnyUnit, Thermal, Flat, Bid, PriceLists}
 use Rattle.uc_model.proofs.Common.{Schedule, start_cost_of, worth_of, supply_in, revenue, line_at, least_line, envelope}
 use Rattle.uc_model.proofs.Common.{IsLag, IsStartCost, IsPoint, Spans, IsThermalUnit, IsBlock, IsBidUnit, IsUnit}
@@ -298,7 +299,7 @@ bid_worth_within b s n unit h k low =
     (omega (arith, ints, few)) in
     record { at_least = omega (arith, ints, a); at_most = omega (arith, ints, c, top) }
 
-pub costs_within : CostsAreWithin
+pub costs_within : UnitScheduleCostsAreWithin
 costs_within (Thermal g) s n few unit h =
     let long = h.schedule.on in
     let own = subst (λ (m : ℕ). IsThermalFeasible g m s) (sym long) h in

@@ -15,8 +15,10 @@ pub use Rattle.std.specs.List.{All, find, AllZip, zip, fold, flat_map}
 pub use Rattle.std.specs.Option.{option_map_or, option_map}
 pub use Rattle.std.specs.Prelude.{nat_le, slice_get, slice_index, slice_index_or, FitsSigned, IsFalse}
 pub use Rattle.uc_model.specs.BoundLaws.{GivesWithin, StartCostsAreWithin, PowerCostsAreWithin, OutputsAreWithin}
-pub use Rattle.uc_model.specs.BoundLaws.{CostsAreWithin, EarningsAreWithin, most_given, least_given, UnitsAreWithin}
-pub use Rattle.uc_model.specs.BoundLaws.{TotalsAreWithin, EarnedSumsAreWithin, PlanCostsAreWithin, DemandWorthIsWithin}
+pub use Rattle.uc_model.specs.BoundLaws.{UnitScheduleCostsAreWithin, EarningsAreWithin, most_given, least_given}
+pub use Rattle.uc_model.specs.BoundLaws.{UnitsAreWithin}
+pub use Rattle.uc_model.specs.BoundLaws.{PowerAndReserveTotalsAreWithin, EarnedSumsAreWithin, PlanCostsAreWithin}
+pub use Rattle.uc_model.specs.BoundLaws.{DemandWorthIsWithin}
 pub use Rattle.uc_model.specs.BoundLaws.{DualValuesAreWithin}
 pub use Rattle.uc_model.specs.Data.{ThermalUnit, BidUnit, AnyUnit, Thermal, Flat, Bid, PriceLists, Schedule, Market}
 pub use Rattle.uc_model.specs.Data.{units, NamedThermalUnit, NamedRenewableUnit, NamedBidUnit, unit_count}

@@ -5,7 +5,7 @@ use Rattle.uc_model.proofs.Common.{All-append, All-map, All, AllZip, slice_get, 
 use Rattle.uc_model.proofs.Common.{Flat, Bid, NamedThermalUnit, NamedRenewableUnit, NamedBidUnit, Schedule, Market}
 use Rattle.uc_model.proofs.Common.{units, unit_count, IsFeasible, thermal_names, renewable_names, bid_names, unit_names}
 use Rattle.uc_model.proofs.Common.{horizon_of, IsMarket, IsThermalUnit, IsBidUnit}
-use Rattle.uc_model.specs.PlanLaws.{UnitsAreNumbered, FeasiblePlansHaveShape}
+use Rattle.uc_model.specs.PlanLaws.{UnitNumbersGoByKind, FeasiblePlansHaveShape}
 use Rattle.uc_model.specs.Limits.{IsRenewableUnit}
 use Rattle.plain_lists.proofs.ListLaws.{item_of, map_item, front_item, back_item, length_same, all_nil, all_cons}
 
@@ -38,7 +38,7 @@ module _ (m : Market) where
     length-map m.bids (λ (n : NamedBidUnit). Bid n.unit),
   )
 
-pub units_numbered : UnitsAreNumbered
+pub units_numbered : UnitNumbersGoByKind
 units_numbered m = record {
   count = length-units m;
   thermal = λ i n e. front_item (thermal m ++ flat m) (bids m) i (Thermal n.unit)

@@ -1,7 +1,8 @@
 -- How large the totals, costs and earnings of all units together can be.
 use Rattle.uc_model.proofs.Common.{◌≡◌, ℕ, suc, ◌+◌, ◌*◌, ◌≤◌, ℤ, pos, neg_ℤ, ◌+ℤ◌, ◌*ℤ◌, ◌≤ℤ◌, List, [], ◌∷◌, ◌++◌}
 use Rattle.uc_model.proofs.Common.{map, length, refl, ap, ◌∙◌, subst, arith, mul-le-mul_left, ints, All-append, All-map}
-use Rattle.uc_model.proofs.Common.{All, AllZip, most_given, least_given, GivesWithin, UnitsAreWithin, TotalsAreWithin}
+use Rattle.uc_model.proofs.Common.{All, AllZip, most_given, least_given, GivesWithin, UnitsAreWithin}
+use Rattle.uc_model.proofs.Common.{PowerAndReserveTotalsAreWithin}
 use Rattle.uc_model.proofs.Common.{EarnedSumsAreWithin, PlanCostsAreWithin, DemandWorthIsWithin, DualValuesAreWithin}
 use Rattle.uc_model.proofs.Common.{AnyUnit, Thermal, Flat, Bid, PriceLists, Schedule, Market, NamedThermalUnit}
 use Rattle.uc_model.proofs.Common.{NamedRenewableUnit, NamedBidUnit, units, cost_of, supply_in, IsTop, IsUnit, IsMarket}
@@ -122,7 +123,7 @@ module _ (m : Market) (plan : List Schedule) (limits : IsMarket m)
       let few = units_few m limits in
       record { at_least = omega (arith, ints, lo, a); at_most = omega (arith, ints, hi, c, few) }
 
-pub totals_within : TotalsAreWithin
+pub totals_within : PowerAndReserveTotalsAreWithin
 totals_within m plan limits given k = (supply_within m plan limits given k, reserve_within m plan limits given k)
 
 -- ---- costs and earnings of all units

@@ -49,8 +49,8 @@ OutputsAreWithin =
     (u : AnyUnit) (s : Schedule) (n : ℕ) → IsUnit u → IsFeasible u n s →
     (k : ℕ) → GivesWithin u s k
 
-abbrev pub CostsAreWithin : Type 0
-CostsAreWithin =
+abbrev pub UnitScheduleCostsAreWithin : Type 0
+UnitScheduleCostsAreWithin =
     (u : AnyUnit) (s : Schedule) (n : ℕ) → n ≤ MOST_PERIODS → IsUnit u → IsFeasible u n s →
     IsUnitCost (cost_of u s)
 
@@ -66,8 +66,8 @@ abbrev pub UnitsAreWithin : Type 0
 UnitsAreWithin = (m : Market) → IsMarket m → All IsUnit (units m)
 
 -- the totals of schedules that are each within their unit's limits, feasible or not
-abbrev pub TotalsAreWithin : Type 0
-TotalsAreWithin =
+abbrev pub PowerAndReserveTotalsAreWithin : Type 0
+PowerAndReserveTotalsAreWithin =
     (m : Market) (plan : List Schedule) → IsMarket m →
     AllZip (λ u s. (k : ℕ) → GivesWithin u s k) (units m) plan →
     (k : ℕ) → IsTotal (total_power (units m) plan k) × IsTotal (total_reserve (units m) plan k)

@@ -16,8 +16,8 @@ pub record NumbersUnits (m : Market) : Type 0 where
   pub bids : (i : ℕ) (n : NamedBidUnit) → slice_get m.bids i ≡ Some n →
       slice_get (units m) ((length m.thermal + length m.flat) + i) ≡ Some (Bid n.unit)
 
-abbrev pub UnitsAreNumbered : Type 0
-UnitsAreNumbered = (m : Market) → NumbersUnits m
+abbrev pub UnitNumbersGoByKind : Type 0
+UnitNumbersGoByKind = (m : Market) → NumbersUnits m
 
 -- a feasible plan has a schedule over the horizon for each unit, and only thermal units are off or
 -- give reserve

@@ -18,7 +18,7 @@ pub fn worth_at_price(price: i64, kilowatts: i64) -> i128
 }
 
 /// The price that is nearest to a number, from `low` to the greatest price.
-pub fn price_near(low: i64, number: i128) -> i64
+pub fn clamp_to_price_limit(low: i64, number: i128) -> i64
     requires { IsFrom (neg_ℤ price_limit) price_limit low }
     ensures value { result ≡ clamped low price_limit number }
     ensures limit { IsFrom low price_limit result }
@@ -27,7 +27,7 @@ pub fn price_near(low: i64, number: i128) -> i64
 }
 
 /// The sum of the blocks' widths in kilowatts.
-pub fn total_width(blocks: &[Block]) -> i64
+pub fn total_block_width(blocks: &[Block]) -> i64
     requires count { length blocks.now ≤ MOST_BLOCKS }
     requires blocks { All IsBlock blocks.now }
     ensures { result ≡ width_of blocks.now }

@@ -31,7 +31,7 @@ fn point_at(points: &[Point], place: usize) -> Option<Point>
     points.get(place).copied()
 }
 
-fn mark_at(marks: &[Mark], place: usize) -> Option<Mark>
+fn window_mark_at(marks: &[Mark], place: usize) -> Option<Mark>
     ensures { result ≡ slice_get marks.now place }
 {
     marks.get(place).copied()
@@ -43,7 +43,7 @@ fn block_at(blocks: &[Block], place: usize) -> Option<Block>
     blocks.get(place).copied()
 }
 
-fn lag_number(lags: &[Lag], place: usize) -> Option<i64>
+fn flattened_lag_number_at(lags: &[Lag], place: usize) -> Option<i64>
     ensures { result ≡ slice_get (flat_map lag_numbers lags.now) place }
 {
     match lag_at(lags, place / 2) {
@@ -53,7 +53,7 @@ fn lag_number(lags: &[Lag], place: usize) -> Option<i64>
     }
 }
 
-fn point_number(points: &[Point], place: usize) -> Option<i64>
+fn flattened_cost_point_number_at(points: &[Point], place: usize) -> Option<i64>
     ensures { result ≡ slice_get (flat_map point_numbers points.now) place }
 {
     match point_at(points, place / 2) {
@@ -63,10 +63,10 @@ fn point_number(points: &[Point], place: usize) -> Option<i64>
     }
 }
 
-fn mark_number_at(marks: &[Mark], place: usize) -> Option<i64>
+fn flattened_window_mark_at(marks: &[Mark], place: usize) -> Option<i64>
     ensures { result ≡ slice_get (map mark_number marks.now) place }
 {
-    match mark_at(marks, place) {
+    match window_mark_at(marks, place) {
         Some(Mark::Free) => Some(0),
         Some(Mark::MustOff) => Some(1),
         Some(Mark::MustOn) => Some(2),
@@ -74,7 +74,7 @@ fn mark_number_at(marks: &[Mark], place: usize) -> Option<i64>
     }
 }
 
-fn block_number(blocks: &[Block], place: usize) -> Option<i64>
+fn flattened_block_number_at(blocks: &[Block], place: usize) -> Option<i64>
     ensures { result ≡ slice_get (flat_map block_numbers blocks.now) place }
 {
     match block_at(blocks, place / 2) {
@@ -84,7 +84,7 @@ fn block_number(blocks: &[Block], place: usize) -> Option<i64>
     }
 }
 
-fn fixed_number(u: &Unit, place: usize) -> Option<i64>
+fn thermal_unit_field_at(u: &Unit, place: usize) -> Option<i64>
     ensures { result ≡ slice_get (fixed_numbers (thermal_of u.now)) place }
 {
     match place {
@@ -106,7 +106,7 @@ fn fixed_number(u: &Unit, place: usize) -> Option<i64>
 }
 
 // The numbers of the unit's lists, from the count of lags on.
-fn lists_number(u: &Unit, place: usize) -> Option<i64>
+fn flattened_unit_lists_number_at(u: &Unit, place: usize) -> Option<i64>
     ensures { result ≡ slice_get (list_numbers (thermal_of u.now)) place }
 {
     let lags = u.lags.as_slice();
@@ -115,33 +115,33 @@ fn lists_number(u: &Unit, place: usize) -> Option<i64>
         return Some(lags.len() as i64);
     }
     if place <= 2 * lags.len() {
-        return lag_number(lags, place - 1);
+        return flattened_lag_number_at(lags, place - 1);
     }
     if place == 2 * lags.len() + 1 {
         return Some(points.len() as i64);
     }
     if place < 2 * lags.len() + 2 + 2 * points.len() {
-        return point_number(points, place - 2 * lags.len() - 2);
+        return flattened_cost_point_number_at(points, place - 2 * lags.len() - 2);
     }
-    mark_number_at(
+    flattened_window_mark_at(
         u.window.as_slice(),
         place - 2 * lags.len() - 2 - 2 * points.len(),
     )
 }
 
-fn thermal_number(u: &Unit, place: usize) -> Option<i64>
+fn flattened_thermal_unit_number_at(u: &Unit, place: usize) -> Option<i64>
     ensures { result ≡ slice_get (unit_numbers (Thermal (thermal_of u.now))) place }
 {
     if place == 0 {
         return Some(0);
     }
     if place <= FIXED {
-        return fixed_number(u, place - 1);
+        return thermal_unit_field_at(u, place - 1);
     }
-    lists_number(u, place - FIXED - 1)
+    flattened_unit_lists_number_at(u, place - FIXED - 1)
 }
 
-fn renewable_number(r: &Renewable, place: usize) -> Option<i64>
+fn flattened_renewable_number_at(r: &Renewable, place: usize) -> Option<i64>
     ensures { result ≡ slice_get (unit_numbers (Flat (renewable_of r.now))) place }
 {
     let least = r.least.as_slice();
@@ -156,17 +156,17 @@ fn renewable_number(r: &Renewable, place: usize) -> Option<i64>
 }
 
 // The numbers of one period's blocks.
-fn period_number(blocks: &[Block], place: usize) -> Option<i64>
+fn flattened_period_blocks_number_at(blocks: &[Block], place: usize) -> Option<i64>
     ensures { result ≡ slice_get (period_numbers blocks.now) place }
 {
     if place == 0 {
         return Some(blocks.len() as i64);
     }
-    block_number(blocks, place - 1)
+    flattened_block_number_at(blocks, place - 1)
 }
 
 // The numbers of a bid after its kind, period by period.
-fn blocks_number(b: &Bid, place: usize) -> Option<i64>
+fn flattened_bid_blocks_number_at(b: &Bid, place: usize) -> Option<i64>
     ensures { result ≡ slice_get (flat_map period_numbers (bid_of b.now).blocks) place }
 {
     let mut left = place;
@@ -174,29 +174,29 @@ fn blocks_number(b: &Bid, place: usize) -> Option<i64>
         let blocks = period.as_slice();
         let size = 1 + 2 * blocks.len();
         if left < size {
-            return period_number(blocks, left);
+            return flattened_period_blocks_number_at(blocks, left);
         }
         left -= size;
     }
     None
 }
 
-fn bid_number(b: &Bid, place: usize) -> Option<i64>
+fn flattened_bid_number_at(b: &Bid, place: usize) -> Option<i64>
     ensures { result ≡ slice_get (unit_numbers (BidOf (bid_of b.now))) place }
 {
     if place == 0 {
         return Some(2);
     }
-    blocks_number(b, place - 1)
+    flattened_bid_blocks_number_at(b, place - 1)
 }
 
-fn unit_number(task: &Task, place: usize) -> Option<i64>
+fn flattened_task_unit_number_at(task: &Task, place: usize) -> Option<i64>
     ensures { result ≡ slice_get (unit_numbers (task_unit task.now)) place }
 {
     match task.kind {
-        UnitKind::Thermal => thermal_number(&task.thermal, place),
-        UnitKind::Flat => renewable_number(&task.flat, place),
-        UnitKind::Bid => bid_number(&task.bid, place),
+        UnitKind::Thermal => flattened_thermal_unit_number_at(&task.thermal, place),
+        UnitKind::Flat => flattened_renewable_number_at(&task.flat, place),
+        UnitKind::Bid => flattened_bid_number_at(&task.bid, place),
     }
 }
 
@@ -219,5 +219,5 @@ pub fn flat_number(task: &Task, place: u32) -> Option<i64>
     if place <= energy.len() + reserve.len() {
         return number_in_list(reserve, place - energy.len() - 1);
     }
-    unit_number(task, place - energy.len() - reserve.len() - 1)
+    flattened_task_unit_number_at(task, place - energy.len() - reserve.len() - 1)
 }

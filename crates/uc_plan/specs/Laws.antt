@@ -9,6 +9,6 @@ abbrev pub SomePlan : Type 0
 SomePlan = (m : Market) (bytes : List ℕ)
     → (r : Result (List Schedule) (FileFault ShapeFault)) × IsPlanOf m bytes r
 
-abbrev pub OnePlan : Type 0
-OnePlan = (m : Market) (bytes : List ℕ) (r s : Result (List Schedule) (FileFault ShapeFault))
+abbrev pub ScheduleFileHasOneValueOrOneFault : Type 0
+ScheduleFileHasOneValueOrOneFault = (m : Market) (bytes : List ℕ) (r s : Result (List Schedule) (FileFault ShapeFault))
     → IsPlanOf m bytes r → IsPlanOf m bytes s → r ≡ s

@@ -1,18 +1,18 @@
 //! Laws over the definitions: each is the contract of a function that does nothing.
-ghost use Rattle.uc_plan.specs.Laws.{SomePlan, OnePlan};
+ghost use Rattle.uc_plan.specs.Laws.{SomePlan, ScheduleFileHasOneValueOrOneFault};
 
-use uc_text::file_laws::one_file;
+use uc_text::file_laws::file_is_one_json_value_or_one_fault;
 
 /// Each list of bytes is a schedule of a case or has a first fault.
-pub fn plan_or_fault()
+pub fn schedule_file_has_value_or_fault()
     ensures { SomePlan }
 {
-    one_file();
+    file_is_one_json_value_or_one_fault();
 }
 
 /// A list of bytes is at most one schedule of a case or has at most one first fault.
-pub fn one_plan()
-    ensures { OnePlan }
+pub fn schedule_file_has_one_value_or_one_fault()
+    ensures { ScheduleFileHasOneValueOrOneFault }
 {
-    one_file();
+    file_is_one_json_value_or_one_fault();
 }

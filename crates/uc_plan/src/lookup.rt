@@ -11,7 +11,7 @@ ghost use Rattle.uc_plan.specs.Plans.{is_among, first_unknown};
 use crate::named::Named;
 use indexmap::{IndexMap, IndexSet};
 use std::alloc::{AllocError, Global};
-use text_tokens::text_of;
+use text_tokens::decode_quoted_string;
 use uc_text::{Branch, Member, ObjectBranch};
 
 /// The values of an object.
@@ -46,7 +46,7 @@ impl<'a> Values<'a> {
             ≡ (if bytes_eq (member_view member.entry).name q then Some member.entry.value
             else get_by_text self.old.by_key q)) }
     {
-        let name = text_of(alloc, member.name)?;
+        let name = decode_quoted_string(alloc, member.name)?;
         self.by_key.insert(name, member.value)?;
         Ok(())
     }
@@ -103,7 +103,7 @@ fn first_unknown_name(
     let mut position = 0;
     for member in known {
         position += 1;
-        let name = text_of(alloc, member.name)?;
+        let name = decode_quoted_string(alloc, member.name)?;
         if !names.set.contains(name.as_str()) {
             return Ok(position);
         }
@@ -126,7 +126,10 @@ pub(crate) fn first_unknown_member<N: Named>(
 }
 
 /// The values of an object.
-pub fn values_of<'a>(alloc: Global, object: ObjectBranch<'a>) -> Result<Values<'a>, AllocError>
+pub fn values_of_object_by_key<'a>(
+    alloc: Global,
+    object: ObjectBranch<'a>,
+) -> Result<Values<'a>, AllocError>
     ensures { IfOk result (λ v. (q : List ℕ)
         → option_map view (get_by_text v.by_key q) ≡ value_under q (members_in object.entry)) }
 {

@@ -67,7 +67,7 @@ impl Item for bool {
 }
 
 /// What the branches are, item by item.
-fn items_of<I: Item + Drop>(
+fn schedule_items_of_json_values<I: Item + Drop>(
     alloc: Global,
     at: ShapeSite,
     branches: &[Branch<'_>],
@@ -88,7 +88,7 @@ fn items_of<I: Item + Drop>(
 
 /// The items of a list. `PlanNumber` at the first that isn't one: kilowatts are a whole number from
 /// 0 to `POWER_LIMIT`, and a flag is 0 or 1.
-pub fn read_items<I: Item + Drop>(
+pub fn read_schedule_items<I: Item + Drop>(
     alloc: Global,
     at: ShapeSite,
     list: ListBranch<'_>,
@@ -99,5 +99,5 @@ pub fn read_items<I: Item + Drop>(
         (numbers I.reading at (items_in list.entry)) }
 {
     let branches = list.items(alloc)?;
-    items_of(alloc, at, &branches)
+    schedule_items_of_json_values(alloc, at, &branches)
 }

@@ -16,9 +16,9 @@ ghost use Rattle.uc_plan.specs.Plans.{all_schedules, plan_of};
 ghost use Rattle.uc_plan.specs.Views.{groups_of};
 
 use crate::fault::{ShapeCode, ShapeSite, ShapeStop};
-use crate::lookup::{Values, first_unknown_member, values_of};
+use crate::lookup::{Values, first_unknown_member, values_of_object_by_key};
 use crate::named::Named;
-use crate::shapes::{Groups, read_groups};
+use crate::shapes::{Groups, read_schedule_objects_by_unit_kind};
 use crate::units::read_schedule;
 use std::alloc::Global;
 use uc_model::cases::{Case, Plan};
@@ -51,7 +51,7 @@ pub fn check_names<N: Named>(
 }
 
 #[tactic(auto, unfolding(crate::specs::Plans::named))]
-fn read_named(
+fn read_schedule_of_named_unit(
     alloc: Global,
     values: &Values<'_>,
     at: ShapeSite,
@@ -87,11 +87,11 @@ fn read_schedules<N: Named>(
         (map schedule_of plan.old.items) (map schedule_of plan.new.items) result
         (schedules periods kind (members_in object.entry) (map N.name_of units.now)) }
 {
-    let values = values_of(alloc, object)?;
+    let values = values_of_object_by_key(alloc, object)?;
     let mut unit = 0;
     for named in units {
         unit += 1;
-        let response = read_named(
+        let response = read_schedule_of_named_unit(
             alloc,
             &values,
             ShapeSite { kind, unit },
@@ -148,7 +148,11 @@ fn read_all_schedules(
 }
 
 /// The schedules of all units, in the order of the case.
-fn all_responses(alloc: Global, case: &Case, groups: Groups<'_>) -> Result<ResponseList, ShapeStop>
+fn read_schedules_in_case_order(
+    alloc: Global,
+    case: &Case,
+    groups: Groups<'_>,
+) -> Result<ResponseList, ShapeStop>
     ensures shape { IfOk result (λ list. HasPlanShape (market_of case.now)
         (map schedule_of list.items)) }
     ensures value { Gives (λ list. map schedule_of list.items) result
@@ -169,8 +173,8 @@ pub(crate) fn plan_of_json_tree(
     ensures shape { IfOk result (λ p. HasPlanShape (market_of case.now) (schedules_of p)) }
     ensures value { Gives schedules_of result (plan_of (market_of case.now) (view root.entry)) }
 {
-    let groups = read_groups(alloc, root, case.bids.len())?;
+    let groups = read_schedule_objects_by_unit_kind(alloc, root, case.bids.len())?;
     check_all_names(alloc, case, groups)?;
-    let responses = all_responses(alloc, case, groups)?;
+    let responses = read_schedules_in_case_order(alloc, case, groups)?;
     Ok(Plan { responses })
 }

@@ -9,7 +9,7 @@ ghost use Rattle.uc_plan.specs.PlanFiles.{IsPlanOf, IfRead};
 ghost use Rattle.uc_plan.specs.declared.fault.ShapeFault.{ShapeFault as PlainFault};
 
 use crate::fault::PlanFault;
-use crate::laws::one_plan;
+use crate::laws::schedule_file_has_one_value_or_one_fault;
 use crate::plans::plan_of_json_tree;
 use std::alloc::Global;
 use uc_model::cases::{Case, Plan};
@@ -33,7 +33,7 @@ pub fn read_plan(alloc: Global, case: &Case, bytes: &[u8]) -> Result<Plan, PlanF
     ensures only { (r : Result (List Schedule) (FileFault PlainFault))
         → IsPlanOf (market_of case.now) bytes.now r → IfRead schedules_of result (λ s. s ≡ r) }
 {
-    one_plan();
+    schedule_file_has_one_value_or_one_fault();
     plan_of_bytes(alloc, case, bytes)
 }
 

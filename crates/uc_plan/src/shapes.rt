@@ -17,7 +17,7 @@ use uc_text::inside::find_member;
 use uc_text::{Branch, ListBranch, Member, ObjectBranch};
 
 /// A list of an item for each period.
-pub fn full_list<'a>(branch: Branch<'a>, periods: u32) -> Option<ListBranch<'a>>
+pub fn list_with_item_per_period<'a>(branch: Branch<'a>, periods: u32) -> Option<ListBranch<'a>>
     ensures count { IfSome result (λ l. length (items_in l) ≡ periods) }
     ensures value { option_map items_in result ≡ full_list_spec periods (view branch.entry) }
 {
@@ -35,7 +35,7 @@ fn list_under<'a>(members: &[Member<'a>], key: &str, periods: u32) -> Option<Lis
     ensures value { option_map items_in result
         ≡ list_under_spec periods key.now (member_views members.now) }
 {
-    full_list(find_member(members, key)?, periods)
+    list_with_item_per_period(find_member(members, key)?, periods)
 }
 
 /// The lists of a thermal unit's schedule, each of an item for each period.
@@ -52,7 +52,10 @@ pub struct ThermalLists<'a> {
 /// The lists of a thermal unit's schedule, where each is among the members and has an item for each
 /// period.
 #[tactic(auto, unfolding(crate::specs::Plans::thermal_lists))]
-pub fn thermal_lists<'a>(members: &[Member<'a>], periods: u32) -> Option<ThermalLists<'a>>
+pub fn lists_of_thermal_schedule<'a>(
+    members: &[Member<'a>],
+    periods: u32,
+) -> Option<ThermalLists<'a>>
     ensures full { IfSome result (λ l. AreFull periods (lists_of l)) }
     ensures value { option_map lists_of result
         ≡ thermal_lists_spec periods (member_views members.now) }
@@ -86,7 +89,7 @@ pub struct Groups<'a> {
 }
 
 /// An object without members.
-fn no_members<'a>() -> ObjectBranch<'a>
+fn empty_json_object<'a>() -> ObjectBranch<'a>
     ensures { members_in result ≡ [] }
 {
     ObjectBranch {
@@ -96,24 +99,30 @@ fn no_members<'a>() -> ObjectBranch<'a>
     }
 }
 
-fn bids_object<'a>(members: &[Member<'a>], bids: usize) -> Option<ObjectBranch<'a>>
+fn schedule_object_of_bids<'a>(members: &[Member<'a>], bids: usize) -> Option<ObjectBranch<'a>>
     ensures { option_map members_in result
         ≡ bids_in bids (value_under (codes "bids") (member_views members.now)) }
 {
     match find_member(members, "bids") {
         Some(branch) => branch.object(),
-        None => { if bids == 0 { Some(no_members()) } else { None } }
+        None => {
+            if bids == 0 {
+                Some(empty_json_object())
+            } else {
+                None
+            }
+        }
     }
 }
 
 /// The objects among the members of a schedule for a case with so many bids, where each is there.
 #[tactic(auto, unfolding(crate::specs::Plans::groups_in))]
-fn groups_in<'a>(members: &[Member<'a>], bids: usize) -> Option<Groups<'a>>
+fn schedule_objects_by_unit_kind<'a>(members: &[Member<'a>], bids: usize) -> Option<Groups<'a>>
     ensures { option_map groups_of result ≡ groups_in bids (member_views members.now) }
 {
     let thermal = object_under(members, "thermal");
     let renewable = object_under(members, "renewable");
-    let bids = bids_object(members, bids);
+    let bids = schedule_object_of_bids(members, bids);
     match (thermal, renewable, bids) {
         (Some(thermal), Some(renewable), Some(bids)) => Some(Groups {
             thermal,
@@ -127,7 +136,7 @@ fn groups_in<'a>(members: &[Member<'a>], bids: usize) -> Option<Groups<'a>>
 /// The objects of a schedule for a case with so many bids. `PlanShape`, at the file as a whole,
 /// where it isn't an object that has them; without bids their object may be absent.
 #[tactic(auto, unfolding(crate::specs::Plans::groups))]
-pub(crate) fn read_groups<'a>(
+pub(crate) fn read_schedule_objects_by_unit_kind<'a>(
     alloc: Global,
     root: Branch<'a>,
     bids: usize,
@@ -142,7 +151,7 @@ pub(crate) fn read_groups<'a>(
         return Err(whole.stop(0, ShapeCode::PlanShape));
     };
     let members = object.members(alloc)?;
-    match groups_in(&members, bids) {
+    match schedule_objects_by_unit_kind(&members, bids) {
         Some(groups) => Ok(groups),
         None => Err(whole.stop(0, ShapeCode::PlanShape)),
     }

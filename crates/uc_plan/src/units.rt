@@ -9,8 +9,8 @@ ghost use Rattle.uc_plan.specs.Plans.{listed_schedule, thermal_schedule, flat_sc
 ghost use Rattle.uc_plan.specs.Views.{lists_of, AreFull};
 
 use crate::fault::{ShapeCode, ShapeSite, ShapeStop};
-use crate::numbers::read_items;
-use crate::shapes::{ThermalLists, full_list, thermal_lists};
+use crate::numbers::read_schedule_items;
+use crate::shapes::{ThermalLists, list_with_item_per_period, lists_of_thermal_schedule};
 use plain_lists::lists::Flags;
 use std::alloc::{AllocError, Global};
 use uc_model::kinds::Kind;
@@ -20,7 +20,7 @@ use uc_text::Branch;
 /// The schedule of a thermal unit by its lists. `PlanNumber` at the first wrong item: of the flags,
 /// then of the powers, and then of the reserves.
 #[tactic(auto, unfolding(crate::specs::Plans::listed_schedule))]
-pub fn read_lists(
+pub fn read_thermal_schedule_lists(
     alloc: Global,
     at: ShapeSite,
     lists: ThermalLists<'_>,
@@ -31,9 +31,9 @@ pub fn read_lists(
     ensures lengths { IfOk result (λ r. HasLengths periods (schedule_of r)) }
     ensures value { Gives schedule_of result (listed_schedule at (lists_of lists.entry)) }
 {
-    let on = read_items::<bool>(alloc, at, lists.on)?;
-    let power = read_items::<u32>(alloc, at, lists.power)?;
-    let reserve = read_items::<u32>(alloc, at, lists.reserve)?;
+    let on = read_schedule_items::<bool>(alloc, at, lists.on)?;
+    let power = read_schedule_items::<u32>(alloc, at, lists.power)?;
+    let reserve = read_schedule_items::<u32>(alloc, at, lists.reserve)?;
     Ok(Response { on, power, reserve })
 }
 
@@ -52,14 +52,18 @@ fn read_thermal(
         return Err(at.stop(0, ShapeCode::PlanShape));
     };
     let members = object.members(alloc)?;
-    let Some(lists) = thermal_lists(&members, periods) else {
+    let Some(lists) = lists_of_thermal_schedule(&members, periods) else {
         return Err(at.stop(0, ShapeCode::PlanShape));
     };
-    read_lists(alloc, at, lists, periods)
+    read_thermal_schedule_lists(alloc, at, lists, periods)
 }
 
 /// Powers over so many periods, on in each with reserve 0.
-fn flat_response(alloc: Global, power: Powers, periods: u32) -> Result<Response, AllocError>
+fn always_on_schedule_without_reserve(
+    alloc: Global,
+    power: Powers,
+    periods: u32,
+) -> Result<Response, AllocError>
     requires { length power.items ≡ periods }
     ensures lengths { IfOk result (λ r. HasLengths periods (schedule_of r)) }
     ensures flat { IfOk result (λ r. IsFlat (schedule_of r)) }
@@ -76,7 +80,7 @@ fn flat_response(alloc: Global, power: Powers, periods: u32) -> Result<Response,
 }
 
 #[tactic(auto, unfolding(crate::specs::Plans::flat_schedule))]
-fn read_flat(
+fn read_schedule_of_powers_alone(
     alloc: Global,
     at: ShapeSite,
     branch: Branch<'_>,
@@ -87,11 +91,11 @@ fn read_flat(
     ensures flat { IfOk result (λ r. IsFlat (schedule_of r)) }
     ensures value { Gives schedule_of result (flat_schedule periods at (view branch.entry)) }
 {
-    let Some(list) = full_list(branch, periods) else {
+    let Some(list) = list_with_item_per_period(branch, periods) else {
         return Err(at.stop(0, ShapeCode::PlanShape));
     };
-    let power = read_items::<u32>(alloc, at, list)?;
-    let response = flat_response(alloc, power, periods)?;
+    let power = read_schedule_items::<u32>(alloc, at, list)?;
+    let response = always_on_schedule_without_reserve(alloc, power, periods)?;
     Ok(response)
 }
 
@@ -110,8 +114,8 @@ pub(crate) fn read_schedule(
 {
     match at.kind {
         Kind::Thermal => read_thermal(alloc, at, branch, periods),
-        Kind::Case => read_flat(alloc, at, branch, periods),
-        Kind::Renewable => read_flat(alloc, at, branch, periods),
-        Kind::Bid => read_flat(alloc, at, branch, periods),
+        Kind::Case => read_schedule_of_powers_alone(alloc, at, branch, periods),
+        Kind::Renewable => read_schedule_of_powers_alone(alloc, at, branch, periods),
+        Kind::Bid => read_schedule_of_powers_alone(alloc, at, branch, periods),
     }
 }

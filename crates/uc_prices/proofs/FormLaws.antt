@@ -18,7 +18,7 @@ use Rattle.uc_text.specs.Words.{◌>>=◌, ◌>>◌, refuse, need}
 use Rattle.uc_prices.specs.Faults.{site, fault}
 use Rattle.uc_prices.specs.Laws.{HaveForm}
 use Rattle.uc_prices.specs.PricesFiles.{IsPricesOf}
-use Rattle.uc_text.specs.FileLaws.{OneFile}
+use Rattle.uc_text.specs.FileLaws.{FileIsOneJsonValueOrOneFault}
 use Rattle.uc_text.specs.Pairs.{Pair}
 use Rattle.uc_prices.specs.declared.fault.PriceCode.TheVariants.{WrongKind, Negative, TooLarge, WrongLength}
 use Rattle.uc_prices.specs.declared.fault.PriceField.{PriceField}
@@ -171,7 +171,8 @@ was_value (Err f) x e = absurd cc
 same_value : {F : Type 0} {v w : Value} → ◌≡◌ {A = Result Value F} (Ok v) (Ok w) → w ≡ v
 same_value e = cc
 
-pub prices_have_form : OneFile → (periods : ℕ) (bytes : List ℕ) (π : PriceLists) → IsPricesOf periods bytes (Ok π) →
+pub prices_have_form : FileIsOneJsonValueOrOneFault → (periods : ℕ) (bytes : List ℕ) (π : PriceLists) → IsPricesOf
+    periods bytes (Ok π) →
     HaveForm periods bytes π
 prices_have_form one periods bytes π (Ok v, file, e) =
     let f = value_form periods v π (was_value (prices_in periods v) π e) in

@@ -12,8 +12,8 @@ use Rattle.uc_prices.specs.PricesFiles.{IsPricesOf}
 use Rattle.uc_prices.specs.declared.fault.PriceFault.{PriceFault}
 use Rattle.uc_prices.specs.declared.fault.PriceField.TheVariants.{Energy, Reserve}
 
-abbrev pub OnePrices : Type 0
-OnePrices = (periods : ℕ) (bytes : List ℕ) (r s : Result PriceLists (FileFault PriceFault))
+abbrev pub PricesFileHasOneValueOrOneFault : Type 0
+PricesFileHasOneValueOrOneFault = (periods : ℕ) (bytes : List ℕ) (r s : Result PriceLists (FileFault PriceFault))
     → IsPricesOf periods bytes r → IsPricesOf periods bytes s → r ≡ s
 
 -- the bytes are an object without reserve prices
@@ -31,6 +31,6 @@ pub record HaveForm (periods : ℕ) (bytes : List ℕ) (π : PriceLists) : Type 
   pub reserve_within : All (IsPriceOf Reserve) π.reserve
   pub left_out : LeavesReserveOut bytes → π.reserve ≡ replicate periods (pos 0)
 
-abbrev pub PricesHaveForm : Type 0
-PricesHaveForm = (periods : ℕ) (bytes : List ℕ) (π : PriceLists) → IsPricesOf periods bytes (Ok π)
+abbrev pub PricesArePerPeriodAndWithinLimits : Type 0
+PricesArePerPeriodAndWithinLimits = (periods : ℕ) (bytes : List ℕ) (π : PriceLists) → IsPricesOf periods bytes (Ok π)
     → HaveForm periods bytes π

@@ -20,7 +20,7 @@ use uc_text::{Branch, Member};
 /// The prices of a list, one for each period. It is tried in the order `WrongKind`, `WrongLength`,
 /// and then item by item.
 #[tactic(auto, unfolding(crate::specs::Tables::list))]
-fn read_list(
+fn read_price_list(
     alloc: Global,
     field: PriceField,
     branch: Branch<'_>,
@@ -53,7 +53,7 @@ fn read_energy(alloc: Global, members: &[Member<'_>], periods: u32) -> Result<Nu
 {
     let field = PriceField::Energy;
     match find_member(members, field.key()) {
-        Some(branch) => read_list(alloc, field, branch, periods),
+        Some(branch) => read_price_list(alloc, field, branch, periods),
         None => Err(PriceSite { field, item: 0 }.stop(PriceCode::Missing)),
     }
 }
@@ -69,7 +69,7 @@ fn read_reserve(alloc: Global, members: &[Member<'_>], periods: u32) -> Result<N
 {
     let field = PriceField::Reserve;
     match find_member(members, field.key()) {
-        Some(branch) => read_list(alloc, field, branch, periods),
+        Some(branch) => read_price_list(alloc, field, branch, periods),
         None => Ok(Numbers::filled(alloc, periods, 0)?),
     }
 }

@@ -9,7 +9,7 @@ ghost use Rattle.uc_prices.specs.PricesFiles.{IsPricesOf, IfRead};
 ghost use Rattle.uc_prices.specs.declared.fault.PriceFault.{PriceFault as PlainFault};
 
 use crate::fault::PricesFault;
-use crate::laws::one_prices;
+use crate::laws::prices_file_has_one_value_or_one_fault;
 use crate::lists::prices_of_json_tree;
 use std::alloc::Global;
 use uc_model::units::Prices;
@@ -33,7 +33,7 @@ pub fn read_prices(alloc: Global, bytes: &[u8], periods: u32) -> Result<Prices, 
     ensures only { (r : Result PriceLists (FileFault PlainFault))
         → IsPricesOf periods bytes.now r → IfRead prices_of result (λ s. s ≡ r) }
 {
-    one_prices();
+    prices_file_has_one_value_or_one_fault();
     prices_of_bytes(alloc, bytes, periods)
 }
 

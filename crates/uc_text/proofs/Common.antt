@@ -49,5 +49,5 @@ pub use Rattle.text_tokens.specs.Decimals.{decimal_in}
 pub use Rattle.text_tokens.specs.Numbers.{number_of}
 pub use Rattle.uc_text.specs.ValueParts.{item_values, member_pairs, list_in, object_in}
 pub use Rattle.uc_text.specs.Files.{IsFile}
-pub use Rattle.uc_text.specs.FileLaws.{SomeFile, OneFile}
+pub use Rattle.uc_text.specs.FileLaws.{SomeFile, FileIsOneJsonValueOrOneFault}
 pub use Rattle.uc_text.specs.declared.object.Member.{Member}

@@ -7,6 +7,6 @@ use Rattle.uc_text.specs.Files.{IsFile}
 abbrev pub SomeFile : Type 0
 SomeFile = (bytes : List ℕ) → (found : Result Value TextFault) × IsFile bytes found
 
-abbrev pub OneFile : Type 0
-OneFile = (bytes : List ℕ) (found other : Result Value TextFault)
+abbrev pub FileIsOneJsonValueOrOneFault : Type 0
+FileIsOneJsonValueOrOneFault = (bytes : List ℕ) (found other : Result Value TextFault)
     → IsFile bytes found → IsFile bytes other → found ≡ other

@@ -4,7 +4,7 @@ ghost use Rattle.std.specs.Prelude.{◌≡◌, ◌<◌, ◌^◌, length};
 use crate::list::ListBranch;
 use crate::node::Node;
 use crate::object::ObjectBranch;
-use crate::tokens::{number_from, string_from};
+use crate::tokens::{number_at_offset, string_at_offset};
 use text_tokens::{Decimal, Quoted};
 
 /// One value within a tree: the first of these nodes with what is inside it, and null where there
@@ -56,7 +56,7 @@ impl<'a> Branch<'a> {
         let (node, _) = self.split();
         match node {
             Node::Number(small) => Some(small.decimal()),
-            Node::LargeNumber(offset) => Some(number_from(self.bytes, offset)),
+            Node::LargeNumber(offset) => Some(number_at_offset(self.bytes, offset)),
             _ => None,
         }
     }
@@ -67,7 +67,7 @@ impl<'a> Branch<'a> {
     {
         let (node, _) = self.split();
         match node {
-            Node::Text(offset) => string_from(self.bytes, offset),
+            Node::Text(offset) => string_at_offset(self.bytes, offset),
             _ => Quoted::empty(),
         }
     }

@@ -6,7 +6,7 @@ ghost use Rattle.std.specs.Prelude.{take, Contains, IfOk, slice_index_or};
 ghost use Rattle.std.specs.List.Sorted.{IsNonDecreasing};
 ghost use Rattle.uc_text.specs.Known.{names_said, AreDifferent, IsFirst, AreKeys};
 
-use crate::names::{Name, is_among, name_hash, plain_name_above, says_same};
+use crate::names::{Name, are_names_equal, is_name_among, name_hash, unescaped_name_if_greater};
 use std::alloc::{AllocError, Global};
 
 /// So many names are compared one after the other.
@@ -21,7 +21,7 @@ fn names_ascend(names: &[Name<'_>]) -> bool
 {
     let mut last: &[u8] = b"";
     for name in names {
-        let Some(text) = plain_name_above(last, name.quoted) else {
+        let Some(text) = unescaped_name_if_greater(last, name.quoted) else {
             return false;
         };
         last = text;
@@ -30,11 +30,11 @@ fn names_ascend(names: &[Name<'_>]) -> bool
 }
 
 /// The first double name, where each is compared with all before it.
-fn first_double_of_few(alloc: Global, names: &[Name<'_>]) -> Result<usize, AllocError>
+fn first_duplicate_by_comparison(alloc: Global, names: &[Name<'_>]) -> Result<usize, AllocError>
     ensures { IfOk result (λ n. IsFirst (names_said names.now) n) }
 {
     for (index, name) in names.iter().enumerate() {
-        if is_among(alloc, &names[..index], name.quoted)? {
+        if is_name_among(alloc, &names[..index], name.quoted)? {
             return Ok(index);
         }
     }
@@ -62,7 +62,12 @@ fn index_in_key(key: u64) -> usize
 
 /// Whether the name of a key says the same as one before it whose key is among these, of the last
 /// ones that have the key's front.
-fn is_double(alloc: Global, names: &[Name<'_>], keys: &[u64], key: u64) -> Result<bool, AllocError>
+fn is_duplicate_name(
+    alloc: Global,
+    names: &[Name<'_>],
+    keys: &[u64],
+    key: u64,
+) -> Result<bool, AllocError>
     requires { key % 16777216 < length names.now }
     ensures some { IfOk result (λ double. double ≡ true
         → Contains (take (key % 16777216) (names_said names.now))
@@ -80,7 +85,7 @@ fn is_double(alloc: Global, names: &[Name<'_>], keys: &[u64], key: u64) -> Resul
     'back: while back > 0 && keys[back - 1] / SPAN == key / SPAN {
         back -= 1;
         let other = index_in_key(keys[back]);
-        if other < index && says_same(alloc, names[other].quoted, names[index].quoted)? {
+        if other < index && are_names_equal(alloc, names[other].quoted, names[index].quoted)? {
             return Ok(true);
         }
     }
@@ -88,7 +93,7 @@ fn is_double(alloc: Global, names: &[Name<'_>], keys: &[u64], key: u64) -> Resul
 }
 
 /// The first double name, by the keys of all names in ascending order.
-fn first_double_by_keys(
+fn first_duplicate_by_hash_keys(
     alloc: Global,
     names: &[Name<'_>],
     keys: &[u64],
@@ -101,7 +106,7 @@ fn first_double_by_keys(
     let mut found = names.len();
     for (place, key) in keys.iter().enumerate() {
         let index = index_in_key(*key);
-        if index < found && is_double(alloc, names, &keys[..place], *key)? {
+        if index < found && is_duplicate_name(alloc, names, &keys[..place], *key)? {
             found = index;
         }
     }
@@ -109,18 +114,18 @@ fn first_double_by_keys(
 }
 
 /// The first double name, by the order of the names' hashes.
-fn first_double_of_many(alloc: Global, names: &[Name<'_>]) -> Result<usize, AllocError>
+fn first_duplicate_by_hashing(alloc: Global, names: &[Name<'_>]) -> Result<usize, AllocError>
     requires { length names.now ≤ 16777216 }
     ensures { IfOk result (λ n. IsFirst (names_said names.now) n) }
 {
     let mut keys = hash_keys_of(alloc, names)?;
     keys.sort_unstable();
-    first_double_by_keys(alloc, names, &keys)
+    first_duplicate_by_hash_keys(alloc, names, &keys)
 }
 
 /// The index of the first name that says the same as one before it, and how many names there are
 /// where none does.
-pub fn first_double(alloc: Global, names: &[Name<'_>]) -> Result<usize, AllocError>
+pub fn first_duplicate_name(alloc: Global, names: &[Name<'_>]) -> Result<usize, AllocError>
     ensures { IfOk result (λ n. IsFirst (names_said names.now) n) }
 {
     if names_ascend(names) {
@@ -128,7 +133,7 @@ pub fn first_double(alloc: Global, names: &[Name<'_>]) -> Result<usize, AllocErr
     }
     // No text has more names than keys can tell.
     if names.len() <= FEW || names.len() as u64 > SPAN {
-        return first_double_of_few(alloc, names);
+        return first_duplicate_by_comparison(alloc, names);
     }
-    first_double_of_many(alloc, names)
+    first_duplicate_by_hashing(alloc, names)
 }

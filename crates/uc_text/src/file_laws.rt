@@ -1,15 +1,18 @@
 //! A law of files: the contract of a function that does nothing.
-ghost use Rattle.uc_text.specs.FileLaws.{SomeFile, OneFile};
+ghost use Rattle.uc_text.specs.FileLaws.{SomeFile, FileIsOneJsonValueOrOneFault};
 
-use crate::laws::{never_both, one_fault, one_value, text_or_fault};
+use crate::laws::{
+    bad_json_text_has_one_first_fault, bytes_are_json_text_or_have_fault, json_text_has_no_fault,
+    json_text_has_one_value,
+};
 
 /// Each list of bytes has a value or a first fault as a text of at most 32 levels, and one alone.
-pub fn one_file()
+pub fn file_is_one_json_value_or_one_fault()
     ensures some { SomeFile }
-    ensures one { OneFile }
+    ensures one { FileIsOneJsonValueOrOneFault }
 {
-    text_or_fault();
-    never_both();
-    one_value();
-    one_fault();
+    bytes_are_json_text_or_have_fault();
+    json_text_has_no_fault();
+    json_text_has_one_value();
+    bad_json_text_has_one_first_fault();
 }

@@ -14,7 +14,7 @@ pub fn find_member<'a>(members: &[Member<'a>], key: &str) -> Option<Branch<'a>>
     ensures { option_map view result ≡ value_under key.now (member_views members.now) }
 {
     for member in members {
-        if member.name.says(key) {
+        if member.name.decodes_to_text(key) {
             return Some(member.value);
         }
     }

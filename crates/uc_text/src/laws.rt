@@ -1,22 +1,23 @@
 //! Laws of texts: each is the contract of a function that does nothing.
-ghost use Rattle.uc_text.specs.Laws.{TextOrFault, NeverBoth, OneValue, OneFault};
+ghost use Rattle.uc_text.specs.Laws.{BytesAreJsonTextOrHaveFault, JsonTextHasNoFault, JsonTextHasOneValue};
+ghost use Rattle.uc_text.specs.Laws.{BadJsonTextHasOneFirstFault};
 
 /// Each list of bytes is the text of a value or has a first fault.
-pub fn text_or_fault()
-    ensures { TextOrFault }
+pub fn bytes_are_json_text_or_have_fault()
+    ensures { BytesAreJsonTextOrHaveFault }
 {}
 
 /// The text of a value has no fault.
-pub fn never_both()
-    ensures { NeverBoth }
+pub fn json_text_has_no_fault()
+    ensures { JsonTextHasNoFault }
 {}
 
 /// A list of bytes is the text of at most one value.
-pub fn one_value()
-    ensures { OneValue }
+pub fn json_text_has_one_value()
+    ensures { JsonTextHasOneValue }
 {}
 
 /// A list of bytes has at most one first fault.
-pub fn one_fault()
-    ensures { OneFault }
+pub fn bad_json_text_has_one_first_fault()
+    ensures { BadJsonTextHasOneFirstFault }
 {}

@@ -21,7 +21,7 @@ ghost use Rattle.uc_text.specs.declared.fault.TextFault.{TextFault};
 ghost use Rattle.uc_text.specs.View.{tree_view};
 ghost use Rattle.plain_lists.specs.declared.limits.TheConstants.{MOST_BYTES};
 
-use crate::doubles::first_double;
+use crate::doubles::first_duplicate_name;
 use crate::fault::{TextCode, TextError, TextFault};
 use crate::names::Name;
 use crate::node::{Node, Parts};
@@ -57,7 +57,7 @@ fn word_node(word: Word<'_>, offset: u32) -> Result<Node, TextError>
 }
 
 /// The parts of the node at an index, where all nodes behind it are inside its value.
-fn parts_of(count: u32, at: usize, nodes: usize) -> Parts
+fn parts_of_list_or_object(count: u32, at: usize, nodes: usize) -> Parts
     requires behind { at < nodes }
     requires few { nodes ≤ at + 2 ^ 30 }
     ensures count { result.count ≡ count }
@@ -105,7 +105,7 @@ fn read_value<'a>(
             // (it keeps the place of the list's node)
             nodes.push(Node::Null)?;
             let count = read_items(alloc, reader, left, nodes)?;
-            nodes[at] = Node::List(parts_of(count, at, nodes.len()));
+            nodes[at] = Node::List(parts_of_list_or_object(count, at, nodes.len()));
             Ok(())
         }
         Token::OpenObject => {
@@ -116,7 +116,7 @@ fn read_value<'a>(
             // (it keeps the place of the object's node)
             nodes.push(Node::Null)?;
             let count = read_members(alloc, reader, left, nodes)?;
-            nodes[at] = Node::Object(parts_of(count, at, nodes.len()));
+            nodes[at] = Node::Object(parts_of_list_or_object(count, at, nodes.len()));
             Ok(())
         }
         _ => Err(text_error(TextCode::NotJson, first.offset)),
@@ -124,7 +124,7 @@ fn read_value<'a>(
 }
 
 /// Numbers of few digits with a comma behind each, as long as they come: how many.
-fn pass_numbers(reader: &mut Reader<'_>, nodes: &mut Vec<Node>) -> Result<u32, AllocError>
+fn read_short_numbers(reader: &mut Reader<'_>, nodes: &mut Vec<Node>) -> Result<u32, AllocError>
     ensures passed { IfOk result (λ count. (us : List Value) × (count ≡ length us)
         × Adds reader.old.bytes.now nodes.old.items nodes.new.items us
         × ((m : ℕ) (all : List Lexed) (vs : List Value) → AtItem m all vs (rest reader.old)
@@ -173,7 +173,7 @@ fn read_items<'a>(
         let behind = reader.next();
         match behind.token {
             Token::Comma => {
-                count += pass_numbers(reader, nodes)?;
+                count += read_short_numbers(reader, nodes)?;
                 first = reader.next();
             }
             Token::CloseList => return Ok(count),
@@ -204,8 +204,8 @@ fn read_members<'a>(
     ensures same { OnOk result (reader.new.bytes.now ≡ reader.old.bytes.now) }
 {
     let mut names = Vec::new(alloc);
-    let read = noted_members(alloc, reader, left, nodes, &mut names);
-    let double = first_double(alloc, &names)?;
+    let read = read_members_and_note_names(alloc, reader, left, nodes, &mut names);
+    let double = first_duplicate_name(alloc, &names)?;
     if double < names.len() {
         return Err(text_error(TextCode::DoubleKey, names[double].offset));
     }
@@ -214,7 +214,7 @@ fn read_members<'a>(
 
 /// The same whether or not names are different, with a note of each name.
 #[cycle(read)]
-fn noted_members<'a>(
+fn read_members_and_note_names<'a>(
     alloc: Global,
     reader: &mut Reader<'a>,
     left: u32,
@@ -281,10 +281,10 @@ pub fn read_tree(alloc: Global, bytes: &[u8]) -> Result<Tree<'_>, TextError>
     // What has a first fault is refused with it.
     ensures refused { (f : TextFault) → IsFirstFault 32 bytes.now f → GivesFault result f }
 {
-    read_whole_text(alloc, bytes)
+    parse_whole_json_text(alloc, bytes)
 }
 
-fn read_whole_text(alloc: Global, bytes: &[u8]) -> Result<Tree<'_>, TextError>
+fn parse_whole_json_text(alloc: Global, bytes: &[u8]) -> Result<Tree<'_>, TextError>
     requires { length bytes.now ≤ MOST_BYTES }
     ensures found { IfOk result (λ v. IsText 32 bytes.now (tree_view v)) }
     ensures fault { IfFault result (λ f. IsFirstFault 32 bytes.now f) }

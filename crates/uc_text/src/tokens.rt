@@ -20,7 +20,7 @@ fn bytes_from_or_none(bytes: &[u8], offset: usize) -> &[u8]
 /// The number that begins at a byte, and 0 where none does.
 // A call of its own, so that the way of small numbers stays short.
 #[inline(never)]
-pub fn number_from(bytes: &[u8], offset: u32) -> Decimal
+pub fn number_at_offset(bytes: &[u8], offset: u32) -> Decimal
     requires { length bytes.now < 2 ^ 30 }
     ensures { result ≡ decimal_in (number_at (drop offset bytes.now)).0 }
 {
@@ -28,7 +28,7 @@ pub fn number_from(bytes: &[u8], offset: u32) -> Decimal
 }
 
 /// The string whose opening quote is this byte, and the empty string where none is closed there.
-pub fn string_from(bytes: &[u8], offset: u32) -> Quoted<'_>
+pub fn string_at_offset(bytes: &[u8], offset: u32) -> Quoted<'_>
     requires { length bytes.now < 2 ^ 30 }
     ensures { said result.bytes.now ≡ said (drop (offset + 1) bytes.now) }
 {

@@ -1,6 +1,6 @@
 -- What a bench is made for stays.
 use Rattle.unit_program.proofs.Common.{◌≡◌, ℕ, zero, suc, ◌+◌, ◌-◌, ◌*◌, ◌≤◌, ◌⊎◌, inl, inr, Some, List, [], ◌∷◌, ◌++◌}
-use Rattle.unit_program.proofs.Common.{length, sym, ap, ◌∙◌, subst, arith, slice_get, mul-le-mul_left, Runner}
+use Rattle.unit_program.proofs.Common.{length, sym, ap, ◌∙◌, subst, arith, slice_get, mul-le-mul_left, RunningSpell}
 use Rattle.unit_program.proofs.Common.{AreTraces, HaveRoom, room_of, space_of}
 use Rattle.unit_program.specs.declared.bench.Bench.{Bench}
 use Rattle.unit_program.proofs.Common.{◌<◌, Option, None, IfSome, ThermalUnit, PriceLists, Entry, IsEndWithin}
@@ -56,7 +56,7 @@ get_append [] r (suc i) x h = cc
 get_append (y ∷ ys) r zero x h = inl h
 get_append (y ∷ ys) r (suc i) x h = get_append ys r i x h
 
-pub room_more : (most : ℕ) (runners runners' : List Runner) (r : Runner) →
+pub room_more : (most : ℕ) (runners runners' : List RunningSpell) (r : RunningSpell) →
     runners' ≡ runners ++ r ∷ [] → most ≡ room_of r.running → HaveRoom most runners → HaveRoom most runners'
 room_more most runners runners' r is fits have f x there =
     elim (get_append runners r f x (ap (λ xs. slice_get xs f) (sym is) ∙ there)) [

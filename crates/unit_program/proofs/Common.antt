@@ -22,7 +22,7 @@ pub use Rattle.unit_rows.specs.Spells.{IsSpell, start_cost_after, IsOffRun, paid
 pub use Rattle.unit_rows.specs.Spells.{period_cost}
 pub use Rattle.unit_table.specs.Tables.{IsEnded, IsLatest, IsComplete}
 pub use Rattle.unit_rows.specs.Ends.{IsStarted, IsEntryAfter, IsLeastEnd, HasAtMost}
-pub use Rattle.unit_table.specs.declared.runner.Runner.{Runner}
+pub use Rattle.unit_table.specs.declared.runner.RunningSpell.{RunningSpell}
 pub use Rattle.unit_rows.specs.declared.table.Ended.{Ended}
 pub use Rattle.unit_rows.specs.declared.table.Entry.{Entry}
 pub use Rattle.slope_list.specs.Slopes.{room_of, space_of}

@@ -10,7 +10,7 @@ use Rattle.std.proofs.lemmas.List.Elements.{All-map, All-append}
 use Rattle.uc_model.specs.declared.units.Point.{Point}
 use Rattle.uc_model.specs.Runs.{Fits}
 use Rattle.unit_program.specs.Answers.{CanBeAnswered, Suffices, IsResponse}
-use Rattle.unit_program.specs.Benches.{IsBenchFor, BenchesServeLess}
+use Rattle.unit_program.specs.Benches.{IsBenchFor, BenchSufficesForFewerPeriods}
 use Rattle.unit_program.specs.declared.bench.Bench.{Bench}
 
 -- a thermal unit that isn't without a feasible schedule is answered
@@ -60,7 +60,7 @@ pub case_bench_kept : (m : Market) (old new : Bench) →
     IsBenchOver m new
 case_bench_kept m old new keeps over k d inside = keeps m.periods _ (over k d inside)
 
-pub serves_all : BenchesServeLess → (m : Market) (points : ℕ) (b : Bench) →
+pub serves_all : BenchSufficesForFewerPeriods → (m : Market) (points : ℕ) (b : Bench) →
     All (λ (n : NamedThermalUnit). length n.unit.points ≤ points) m.thermal → IsBenchFor m.periods points b →
     IsBenchOver m b
 serves_all less m points b few over =

@@ -23,8 +23,8 @@ pub record IsBenchFor (periods points : ℕ) (b : Bench) : Type 0 where
   pub limits : periods < length b.limits.items
 
 -- a bench serves fewer periods and points too
-abbrev pub BenchesServeLess : Type 0
-BenchesServeLess =
+abbrev pub BenchSufficesForFewerPeriods : Type 0
+BenchSufficesForFewerPeriods =
     (periods points fewer less : ℕ) (b : Bench) → fewer ≤ periods → less ≤ points →
     IsBenchFor periods points b → IsBenchFor fewer less b
 

@@ -7,13 +7,13 @@ use Rattle.unit_program.specs.declared.bench.Bench.{Bench}
 use Rattle.unit_program.specs.Tops.{HasSchedules, CanAnswer, IsBenchOver}
 
 -- where each unit has a feasible schedule, none is without one
-abbrev pub UnitsCanAnswer : Type 0
-UnitsCanAnswer = (m : Market) → HasSchedules m → CanAnswer m
+abbrev pub FeasibleUnitsCanAnswer : Type 0
+FeasibleUnitsCanAnswer = (m : Market) → HasSchedules m → CanAnswer m
 
 -- a bench for the periods of a case, and as many cost points as any of its units has, suffices for
 -- each thermal unit
-abbrev pub BenchesServeAll : Type 0
-BenchesServeAll =
+abbrev pub CaseBenchSufficesForEachUnit : Type 0
+CaseBenchSufficesForEachUnit =
     (m : Market) (points : ℕ) (b : Bench) →
     All (λ (n : NamedThermalUnit). length n.unit.points ≤ points) m.thermal →
     IsBenchFor m.periods points b → IsBenchOver m b

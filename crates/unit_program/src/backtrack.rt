@@ -13,18 +13,18 @@ ghost use Rattle.unit_rows.specs.Rows.{cost_at, first_at};
 ghost use Rattle.unit_table.specs.Runners.{CanBacktrack, since};
 
 use crate::least_end::{earnings_of_cost, is_all_off, turn_all_off};
-use spell_run::{Logged, SpellTrace, write_spell};
+use spell_run::{Logged, SpellTrace, write_least_cost_dispatch_of_spell};
 use uc_model::laws::start_costs_are_within;
 use uc_model::units::{Answered, Prices, Unit};
 use unit_rows::table::{Ended, Entry};
-use unit_table::laws::limits_keep_rows;
-use unit_table::runner::Runner;
+use unit_table::laws::rows_within_cost_limits_are_kept;
+use unit_table::runner::RunningSpell;
 
 /// What all spells of a table left.
 #[derive(Clone, Copy)]
 pub struct Backtracks<'a> {
     /// A runner for each first period, each with its last entry of the log.
-    pub runners: &'a [Runner],
+    pub runners: &'a [RunningSpell],
     /// The entries of all of them.
     pub log: &'a [Logged],
 }
@@ -59,7 +59,7 @@ fn write_spell_dispatch(
             log: backtracks.log,
             trace: backtracks.runners[first as usize].trace,
         };
-        write_spell(unit, prices, first, last, left, into);
+        write_least_cost_dispatch_of_spell(unit, prices, first, last, left, into);
     }
 }
 
@@ -89,7 +89,7 @@ fn write_earlier_spells(
         ≡ length (schedule_of into.old.response).on }
 {
     start_costs_are_within();
-    limits_keep_rows();
+    rows_within_cost_limits_are_kept();
     let Some(ended) = rows[last as usize] else {
         return;
     };
@@ -132,7 +132,7 @@ pub fn write_best_response(
     ensures earned { into.new.earned ≡ earnings (Thermal (thermal_of unit.now))
         (prices_of prices.now) (schedule_of into.new.response) }
 {
-    limits_keep_rows();
+    rows_within_cost_limits_are_kept();
     turn_all_off(into);
     write_earlier_spells(unit, prices, rows, backtracks, end.last, into);
     into.earned = earnings_of_cost(end.cost);

@@ -12,7 +12,7 @@ ghost use Rattle.unit_table.specs.Runners.{CanBacktrack};
 use crate::backtrack::{Backtracks, write_best_response};
 use crate::kept::{Kept, NO_BOUND};
 use crate::last::LastAnswers;
-use crate::least_end::least_end;
+use crate::least_end::least_cost_end_of_horizon;
 use cost_curve::curves::curve_into;
 use plain_lists::lists::Numbers;
 use slope_list::Slopes;
@@ -20,14 +20,14 @@ use spell_run::Trace;
 use std::alloc::{AllocError, Global};
 use uc_model::laws::earnings_are_within;
 use uc_model::units::{Answered, Blocks, Curve, Prices, Unit};
-use unit_rows::limits::fill_cost_limits;
+use unit_rows::limits::write_cost_limits_by_period;
 use unit_rows::origins::Origins;
 use unit_rows::table::{Entry, Table};
-use unit_table::laws::limits_keep_rows;
+use unit_table::laws::rows_within_cost_limits_are_kept;
 use unit_table::periods::fill_table;
 use unit_table::question::Question;
 use unit_table::roster::Roster;
-use unit_table::runner::Runner;
+use unit_table::runner::RunningSpell;
 use unit_table::shared::Shared;
 
 /// Memory for the answers of units over so many periods, with so many cost points. What it holds
@@ -35,7 +35,7 @@ use unit_table::shared::Shared;
 pub struct Bench {
     curve: Curve,
     // The spells that go forward together.
-    runners: Vec<Runner>,
+    runners: Vec<RunningSpell>,
     // What they write to by turns.
     shared: Shared,
     // The ends that the next start may follow.
@@ -66,14 +66,18 @@ impl Drop for Bench {
 }
 
 // So many runners, none of them on, each with room for so many pieces.
-fn make_runners(alloc: Global, count: u32, pieces: usize) -> Result<Vec<Runner>, AllocError>
+fn make_running_spells(
+    alloc: Global,
+    count: u32,
+    pieces: usize,
+) -> Result<Vec<RunningSpell>, AllocError>
     ensures count { IfOk result (λ v. length v.items ≡ count) }
     ensures room { IfOk result (λ v. HaveRoom pieces v.items) }
 {
     let mut runners = Vec::with_capacity(alloc, count as usize)?;
     for _ in 0..count {
         let running = Slopes::make(alloc, pieces)?;
-        let runner = Runner {
+        let runner = RunningSpell {
             is_on: false,
             cost: 0,
             before: 0,
@@ -86,7 +90,7 @@ fn make_runners(alloc: Global, count: u32, pieces: usize) -> Result<Vec<Runner>,
 }
 
 // Fills a bench's curve, its limits and its table.
-fn fill_bench(bench: &mut Bench, unit: &Unit, prices: &Prices, most: i64)
+fn fill_least_cost_table_for_prices(bench: &mut Bench, unit: &Unit, prices: &Prices, most: i64)
     requires horizon { length (thermal_of unit.now).window ≡ length (prices_of prices.now).energy }
     requires most { IsFrom (neg_ℤ (pos 4000000000000000000)) (pos 4000000000000000000) most }
     requires bench { IsBenchFor (length (prices_of prices.now).energy)
@@ -102,7 +106,7 @@ fn fill_bench(bench: &mut Bench, unit: &Unit, prices: &Prices, most: i64)
         → IsBenchFor periods points bench.new }
 {
     curve_into(unit.points.as_slice(), &mut bench.curve);
-    fill_cost_limits(unit, prices, most, &mut bench.limits);
+    write_cost_limits_by_period(unit, prices, most, &mut bench.limits);
     let question = Question {
         unit,
         curve: &bench.curve,
@@ -120,7 +124,7 @@ fn fill_bench(bench: &mut Bench, unit: &Unit, prices: &Prices, most: i64)
 }
 
 // An end, if it costs at most an amount.
-fn end_at_most(end: Option<Entry>, most: i64) -> Option<Entry>
+fn end_if_cost_at_most(end: Option<Entry>, most: i64) -> Option<Entry>
     ensures some { IfSome result (λ e. (end ≡ Some e) × (e.cost ≤ℤ most)) }
     ensures none { IfNone result ((e : Entry) → end ≡ Some e → (most +ℤ pos 1) ≤ℤ e.cost) }
 {
@@ -137,7 +141,12 @@ fn end_at_most(end: Option<Entry>, most: i64) -> Option<Entry>
 }
 
 // Fills a bench as far as some amount asks, and answers the least end, if it costs at most that.
-fn find_end_within(bench: &mut Bench, unit: &Unit, prices: &Prices, most: i64) -> Option<Entry>
+fn find_least_cost_end_within(
+    bench: &mut Bench,
+    unit: &Unit,
+    prices: &Prices,
+    most: i64,
+) -> Option<Entry>
     requires horizon { length (thermal_of unit.now).window ≡ length (prices_of prices.now).energy }
     requires most { IsFrom (neg_ℤ (pos 4000000000000000000)) (pos 4000000000000000000) most }
     requires bench { IsBenchFor (length (prices_of prices.now).energy)
@@ -148,10 +157,13 @@ fn find_end_within(bench: &mut Bench, unit: &Unit, prices: &Prices, most: i64) -
     ensures bench { (periods points : ℕ) → IsBenchFor periods points bench.old
         → IsBenchFor periods points bench.new }
 {
-    limits_keep_rows();
-    fill_bench(bench, unit, prices, most);
+    rows_within_cost_limits_are_kept();
+    fill_least_cost_table_for_prices(bench, unit, prices, most);
     let periods = prices.energy.len() as u32;
-    end_at_most(least_end(unit, periods, bench.table.as_slice()), most)
+    end_if_cost_at_most(
+        least_cost_end_of_horizon(unit, periods, bench.table.as_slice()),
+        most,
+    )
 }
 
 impl Bench {
@@ -182,7 +194,7 @@ impl Bench {
         let kept = Kept::make(alloc, periods)?;
         let shared = Shared::make(alloc, periods, pieces as usize)?;
         // The runners come last, so that no early return has to drop them.
-        let runners = make_runners(alloc, rows, pieces as usize)?;
+        let runners = make_running_spells(alloc, rows, pieces as usize)?;
         Ok(Bench {
             curve: Curve {
                 at: 0,
@@ -202,18 +214,18 @@ impl Bench {
     /// Takes the last answer of the unit of a number, if it can be had, and forgets that of any
     /// other unit. An answer is found sooner from the last one of its unit, and is the same
     /// whatever that is.
-    pub fn recall(&mut self, last: &LastAnswers, number: u32)
+    pub fn recall_last_answer_of_unit(&mut self, last: &LastAnswers, number: u32)
         ensures bench { (periods points : ℕ) → IsBenchFor periods points self.old
             → IsBenchFor periods points self.new }
     {
-        self.kept.forget();
-        last.exchange(number, &mut self.kept);
+        self.kept.forget_kept_answer();
+        last.swap_last_answer_of_unit(number, &mut self.kept);
     }
 
     /// Fills the bench for a unit at prices over its horizon, and answers the least end: within
     /// what is guessed by the last answer, or else within what any schedule may cost. None where no
     /// schedule is feasible. Takes no memory.
-    pub fn find_end(&mut self, unit: &Unit, prices: &Prices) -> Option<Entry>
+    pub fn find_least_cost_end(&mut self, unit: &Unit, prices: &Prices) -> Option<Entry>
         requires horizon { length (thermal_of unit.now).window
             ≡ length (prices_of prices.now).energy }
         requires bench { IsBenchFor (length (prices_of prices.now).energy)
@@ -228,15 +240,21 @@ impl Bench {
     {
         earnings_are_within();
         let guess = self.kept.guess(prices);
-        if let Some(end) = find_end_within(self, unit, prices, guess) {
+        if let Some(end) = find_least_cost_end_within(self, unit, prices, guess) {
             return Some(end);
         }
-        find_end_within(self, unit, prices, NO_BOUND)
+        find_least_cost_end_within(self, unit, prices, NO_BOUND)
     }
 
     /// Leaves in `into` the least best response, by backtracking from its end, and what it earns.
     /// Unit, prices and `into` are over the same periods. Takes no memory.
-    pub fn write_answer(&self, unit: &Unit, prices: &Prices, end: &Entry, into: &mut Answered)
+    pub fn write_best_response_from_table(
+        &self,
+        unit: &Unit,
+        prices: &Prices,
+        end: &Entry,
+        into: &mut Answered,
+    )
         requires way { HasWayFrom (thermal_of unit.now) (prices_of prices.now) end.now self.now }
         requires into { length (schedule_of into.old.response).on
             ≡ length (prices_of prices.now).energy }
@@ -259,6 +277,6 @@ impl Bench {
             → IsBenchFor periods points self.new }
     {
         self.kept.keep(prices, answered);
-        last.exchange(number, &mut self.kept);
+        last.swap_last_answer_of_unit(number, &mut self.kept);
     }
 }

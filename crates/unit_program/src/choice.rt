@@ -52,11 +52,11 @@ pub fn least_on_bench(
     ensures bench { (periods points : ℕ) → IsBenchFor periods points bench.old
         → IsBenchFor periods points bench.new }
 {
-    bench.recall(last, number);
-    let Some(end) = bench.find_end(unit, prices) else {
+    bench.recall_last_answer_of_unit(last, number);
+    let Some(end) = bench.find_least_cost_end(unit, prices) else {
         return false;
     };
-    bench.write_answer(unit, prices, &end, into);
+    bench.write_best_response_from_table(unit, prices, &end, into);
     bench.keep(last, number, prices, into);
     true
 }

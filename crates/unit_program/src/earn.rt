@@ -6,9 +6,9 @@ ghost use Rattle.uc_model.specs.PlainUnits.{prices_of, schedule_of};
 ghost use Rattle.unit_program.specs.Tops.{HasSchedules, IsBenchOver, AreTops};
 
 use crate::bench::Bench;
-use crate::case_laws::units_can_answer;
+use crate::case_laws::feasible_units_can_answer;
 use crate::last::LastAnswers;
-use crate::unit_answer::answer_numbered_unit;
+use crate::unit_answer::write_best_response_of_numbered_unit;
 use plain_lists::lists::Numbers;
 use uc_model::cases::Case;
 use uc_model::units::{Answered, Prices};
@@ -35,10 +35,10 @@ pub fn earn_all(
     ensures bench { IsBenchOver (market_of case.now) bench.new }
     ensures buffer { length (schedule_of buffer.new.response).on ≡ (market_of case.now).periods }
 {
-    units_can_answer();
+    feasible_units_can_answer();
     into.clear();
     for number in 0..case.unit_count() as usize {
-        answer_numbered_unit(bench, last, case, prices, number, buffer);
+        write_best_response_of_numbered_unit(bench, last, case, prices, number, buffer);
         into.push(buffer.earned);
     }
 }

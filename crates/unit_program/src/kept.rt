@@ -35,7 +35,7 @@ impl Drop for Kept {
 }
 
 // What prices pay for a power and a reserve in the periods that all have.
-fn paid_for_powers(prices: &Prices, power: &[u32], reserve: &[u32]) -> i64 {
+fn market_revenue_of_power_and_reserve(prices: &Prices, power: &[u32], reserve: &[u32]) -> i64 {
     let both = power.len().min(reserve.len());
     let energy = prices.energy.as_slice();
     let held = prices.reserve.as_slice();
@@ -69,7 +69,7 @@ impl Kept {
     }
 
     /// Keeps nothing any more.
-    pub fn forget(&mut self) {
+    pub fn forget_kept_answer(&mut self) {
         self.is_some = false;
     }
 
@@ -80,7 +80,11 @@ impl Kept {
         if !self.is_some {
             return NO_BOUND;
         }
-        let paid = paid_for_powers(prices, self.power.as_slice(), self.reserve.as_slice());
+        let paid = market_revenue_of_power_and_reserve(
+            prices,
+            self.power.as_slice(),
+            self.reserve.as_slice(),
+        );
         self.cost.saturating_sub(paid).clamp(-NO_BOUND, NO_BOUND)
     }
 
@@ -89,7 +93,11 @@ impl Kept {
         let response = &answered.response;
         copy_powers(response.power.as_slice(), &mut self.power);
         copy_powers(response.reserve.as_slice(), &mut self.reserve);
-        let paid = paid_for_powers(prices, self.power.as_slice(), self.reserve.as_slice());
+        let paid = market_revenue_of_power_and_reserve(
+            prices,
+            self.power.as_slice(),
+            self.reserve.as_slice(),
+        );
         self.cost = paid.saturating_sub(answered.earned);
         self.is_some = true;
     }

@@ -41,7 +41,7 @@ impl LastAnswers {
 
     /// Swaps the last answer of the unit of a number with what is in a room. Does nothing where the
     /// number has no place, or another thread is about it just now: it waits for nobody.
-    pub(crate) fn exchange(&self, number: u32, room: &mut Kept) {
+    pub(crate) fn swap_last_answer_of_unit(&self, number: u32, room: &mut Kept) {
         let Some(unit) = self.units.get(number as usize) else {
             return;
         };

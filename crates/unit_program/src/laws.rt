@@ -1,5 +1,5 @@
 //! Laws of spells and benches: each is the contract of a function that does nothing.
-ghost use Rattle.unit_program.specs.Benches.{BenchesServeLess};
+ghost use Rattle.unit_program.specs.Benches.{BenchSufficesForFewerPeriods};
 ghost use Rattle.unit_program.specs.Lists.{SchedulesAreSpells};
 
 /// Every feasible schedule is a list of spells with times off between them. A spell has no period
@@ -9,6 +9,6 @@ pub fn schedules_are_spells()
 {}
 
 /// A bench that suffices for so many periods and cost points suffices for fewer.
-pub fn benches_serve_less()
-    ensures { BenchesServeLess }
+pub fn bench_suffices_for_fewer_periods()
+    ensures { BenchSufficesForFewerPeriods }
 {}

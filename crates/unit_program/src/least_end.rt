@@ -8,11 +8,11 @@ ghost use Rattle.unit_rows.specs.Spells.{IsOffRun};
 ghost use Rattle.unit_rows.specs.Ends.{IsLeastEnd};
 
 use uc_model::units::{Answered, Unit};
-use unit_rows::commitment::off_from;
-use unit_rows::table::{Ended, Entry, lesser_entry};
+use unit_rows::commitment::earliest_allowed_last_on_period;
+use unit_rows::table::{Ended, Entry, lesser_spell_entry};
 
 // The cost of all, where `last` is the last on period.
-fn end_cost_at(rows: &[Option<Ended>], last: u32) -> Option<i64>
+fn cost_at_last_on_period(rows: &[Option<Ended>], last: u32) -> Option<i64>
     requires { last < length rows.now }
     ensures { result ≡ cost_at rows.now last }
 {
@@ -24,7 +24,7 @@ fn end_cost_at(rows: &[Option<Ended>], last: u32) -> Option<i64>
 
 /// The least cost of all over a unit's horizon of T periods, with the last on period; of equal ones
 /// that with the earliest. None where no schedule is feasible.
-pub fn least_end(unit: &Unit, periods: u32, rows: &[Option<Ended>]) -> Option<Entry>
+pub fn least_cost_end_of_horizon(unit: &Unit, periods: u32, rows: &[Option<Ended>]) -> Option<Entry>
     requires periods { periods ≡ length (thermal_of unit.now).window }
     requires room { periods < length rows.now }
     ensures some { IfSome result (λ r. IsLeastEnd (thermal_of unit.now) periods (cost_at rows.now)
@@ -35,8 +35,8 @@ pub fn least_end(unit: &Unit, periods: u32, rows: &[Option<Ended>]) -> Option<En
         → IsOffRun (thermal_of unit.now) l periods → ⊥) }
 {
     let mut least: Option<Entry> = None;
-    for last in off_from(unit, periods)..periods + 1 {
-        least = lesser_entry(least, end_cost_at(rows, last), last);
+    for last in earliest_allowed_last_on_period(unit, periods)..periods + 1 {
+        least = lesser_spell_entry(least, cost_at_last_on_period(rows, last), last);
     }
     least
 }

@@ -28,8 +28,8 @@ pub mod least_end;
 mod unit_answer;
 
 pub use bench::Bench;
-pub use case_bench::{bench_for, most_points};
+pub use case_bench::{make_bench_for_case, most_cost_points_in_case};
 pub use choice::least_on_bench;
 pub use earn::earn_all;
 pub use last::LastAnswers;
-pub use unit_answer::{answer_numbered_unit, answer_unit};
+pub use unit_answer::{write_best_response_of_numbered_unit, write_best_response_of_unit};

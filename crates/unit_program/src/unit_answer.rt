@@ -20,7 +20,7 @@ use uc_model::units::{Answered, Flow, Prices};
 /// afterwards for all that it sufficed for before. The unit, the prices and `into` are over the
 /// same periods. The answer is the same whatever the unit's number and the last answers are. Takes
 /// no memory.
-pub fn answer_unit(
+pub fn write_best_response_of_unit(
     bench: &mut Bench,
     last: &LastAnswers,
     number: u32,
@@ -48,7 +48,7 @@ pub fn answer_unit(
 }
 
 // Which way the unit's powers count.
-fn flow_of_unit(unit: UnitRef<'_>) -> Flow
+fn supply_or_demand_side_of_unit(unit: UnitRef<'_>) -> Flow
     ensures { (s : Schedule) (k : ℕ) → supply_in (unit_of unit.entry) s (suc k)
         ≡ amount_of result (slice_index s.power k) }
 {
@@ -63,7 +63,7 @@ fn flow_of_unit(unit: UnitRef<'_>) -> Flow
 /// earns in money. Tells which way its powers count. No unit is without a feasible schedule; the
 /// bench suffices for each thermal unit, and does so afterwards. Prices and `into` are over the
 /// periods of the case. The answer is the same whatever the last answers are. Takes no memory.
-pub fn answer_numbered_unit(
+pub fn write_best_response_of_numbered_unit(
     bench: &mut Bench,
     last: &LastAnswers,
     case: &Case,
@@ -82,6 +82,6 @@ pub fn answer_numbered_unit(
     ensures into { length (schedule_of into.new.response).on ≡ (market_of case.now).periods }
 {
     let unit = case.unit_at(number).unit;
-    answer_unit(bench, last, number as u32, unit, prices, into);
-    flow_of_unit(unit)
+    write_best_response_of_unit(bench, last, number as u32, unit, prices, into);
+    supply_or_demand_side_of_unit(unit)
 }

@@ -28,7 +28,7 @@ fn last_must_on(marks: &[Mark], until: u32) -> u32
 
 /// The earliest on period from which on the unit may be off to the end of period `until`: after
 /// that one and after each later one it may.
-pub fn off_from(unit: &Unit, until: u32) -> u32
+pub fn earliest_allowed_last_on_period(unit: &Unit, until: u32) -> u32
     requires { until ≤ length (thermal_of unit.now).window }
     ensures within { result ≤ until }
     ensures yes { (last : ℕ) → result ≤ last → last ≤ until
@@ -80,7 +80,7 @@ pub fn periods_off(unit: &Unit, last: u32, period: u32) -> u64
 
 /// The last on period since which the unit has been off for long enough at the end of a period, and
 /// a period before it hadn't been.
-pub(crate) fn stop_just_released(unit: &Unit, period: u32) -> Option<u32>
+pub(crate) fn stop_with_min_down_just_met(unit: &Unit, period: u32) -> Option<u32>
     requires { period ≤ MOST_PERIODS }
     ensures some { IfSome result (IsRipe (thermal_of unit.now) period) }
     ensures only { (last : ℕ) → IsRipe (thermal_of unit.now) period last → result ≡ Some last }
@@ -111,7 +111,7 @@ fn periods_on(unit: &Unit, first: u32, last: u32) -> u64
 }
 
 /// Whether the unit has been on for long enough to stop after a spell.
-pub fn is_long_enough(unit: &Unit, first: u32, last: u32) -> bool
+pub fn is_min_up_met_by_spell(unit: &Unit, first: u32, last: u32) -> bool
     requires { first ≤ last }
     ensures { IsTrue result
         ↔ ((thermal_of unit.now).min_up ≤ on_time (thermal_of unit.now) first last) }

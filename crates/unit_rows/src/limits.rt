@@ -55,14 +55,14 @@ struct Known {
 
 // Up to which price, or from which one on, an end of the points has the least net cost: the new
 // one, if it has it there.
-fn known_until_price(known: i64, price: i64, net: i64, least: i64) -> i64
+fn updated_price_bound_of_end_point(known: i64, price: i64, net: i64, least: i64) -> i64
     ensures { (result ≡ known) ⊎ ((result ≡ price) × (net ≡ least)) }
 {
     if net == least { price } else { known }
 }
 
 // As `least_net_cost`, without a look at all points where one of their ends is known to have the least.
-fn least_net_cost_known(points: &[Point], price: i64, known: &mut Known) -> i64
+fn least_net_cost_with_price_bounds(points: &[Point], price: i64, known: &mut Known) -> i64
     requires some { 1 ≤ length points.now }
     requires points { All IsPoint points.now }
     requires ordered { ArePointsOrdered points.now }
@@ -81,8 +81,8 @@ fn least_net_cost_known(points: &[Point], price: i64, known: &mut Known) -> i64
         return last;
     }
     let least = least_net_cost(points, price);
-    known.first_to = known_until_price(known.first_to, price, first, least);
-    known.last_from = known_until_price(known.last_from, price, last, least);
+    known.first_to = updated_price_bound_of_end_point(known.first_to, price, first, least);
+    known.last_from = updated_price_bound_of_end_point(known.last_from, price, last, least);
     least
 }
 
@@ -99,14 +99,14 @@ fn least_cost_of_period(unit: &Unit, energy: i64, reserve: i64, known: &mut Know
         result ≤ℤ (envelope (thermal_of unit.now).points p -ℤ ((energy *ℤ p) +ℤ (reserve *ℤ r))) }
 {
     envelope_earns_as_points();
-    let least = least_net_cost_known(unit.points.as_slice(), energy - reserve, known);
+    let least = least_net_cost_with_price_bounds(unit.points.as_slice(), energy - reserve, known);
     (least - reserve * unit.max_power).min(0)
 }
 
 /// Writes the limits of a unit at prices over T periods: at place t what all up to the end of
 /// period t may cost where the whole costs at most `most`, in money. There are at least T + 1
 /// places. `most` is within 4 * 10^18.
-pub fn fill_cost_limits(unit: &Unit, prices: &Prices, most: i64, limits: &mut Numbers)
+pub fn write_cost_limits_by_period(unit: &Unit, prices: &Prices, most: i64, limits: &mut Numbers)
     requires most { IsFrom (neg_ℤ (pos 4000000000000000000)) (pos 4000000000000000000) most }
     requires room { length (prices_of prices.now).energy < length limits.old.items }
     ensures limits { AreLimits (thermal_of unit.now) (prices_of prices.now) most

@@ -13,8 +13,8 @@ ghost use Rattle.unit_rows.specs.Origins.{AreRight, AreInOrder, AreOrigins, AreO
 ghost use Rattle.unit_rows.specs.Rows.{cost_at, IsWithinTimes};
 ghost use Rattle.unit_rows.specs.Ends.{IsEntry, IsLeastEntry};
 
-use crate::commitment::{must_be_on, stop_just_released};
-use crate::table::{Ended, Entry, cost_of_start_after, lesser_entry, sum_of_costs};
+use crate::commitment::{must_be_on, stop_with_min_down_just_met};
+use crate::table::{Ended, Entry, cost_of_start_after, lesser_spell_entry, sum_of_costs};
 use plain_lists::lists::ReservedList;
 use std::alloc::{AllocError, Global};
 use uc_model::units::{Lag, Unit};
@@ -81,7 +81,7 @@ impl Origins {
     }
 
     // Where an end of a cost is put: in the place of those that it dominates.
-    fn place_for(&self, cost: i64) -> u32
+    fn index_past_cheaper_spell_ends(&self, cost: i64) -> u32
         requires { self.now.count ≤ length self.now.list.items }
         ensures within { result ≤ self.now.count }
         ensures dearer { (i : ℕ) (a : Origin) → result ≤ i → i < self.now.count →
@@ -109,13 +109,18 @@ impl Origins {
         ensures put { IsOriginPut origin self.old self.new }
         ensures length { length self.new.list.items ≡ length self.old.list.items }
     {
-        let index = self.place_for(origin.cost);
+        let index = self.index_past_cheaper_spell_ends(origin.cost);
         self.list.set(index as usize, origin);
         self.count = index + 1;
     }
 
     // Puts in the end since which the unit has been off for long enough only now, if there is one.
-    fn take_ripe(&mut self, unit: &Unit, period: u32, rows: &[Option<Ended>])
+    fn insert_spell_end_with_min_down_met(
+        &mut self,
+        unit: &Unit,
+        period: u32,
+        rows: &[Option<Ended>],
+    )
         requires end { period ≤ length (thermal_of unit.now).window }
         requires rows { period < length rows.now }
         requires room { period < length self.old.list.items }
@@ -130,7 +135,7 @@ impl Origins {
         ensures origins { AreOrigins (thermal_of unit.now) (cost_at rows.now) period self.new }
         ensures length { length self.new.list.items ≡ length self.old.list.items }
     {
-        let Some(last) = stop_just_released(unit, period) else {
+        let Some(last) = stop_with_min_down_just_met(unit, period) else {
             return;
         };
         if last < self.off_from {
@@ -154,11 +159,16 @@ impl Origins {
         self.count = 0;
         self.off_from = 0;
         self.is_rising = start_costs_rise(unit.lags.as_slice());
-        self.take_ripe(unit, 0, rows);
+        self.insert_spell_end_with_min_down_met(unit, 0, rows);
     }
 
     /// Goes on to the origins of a start after the period at an index.
-    pub fn go_on(&mut self, unit: &Unit, index: u32, rows: &[Option<Ended>])
+    pub fn advance_to_starts_after_period(
+        &mut self,
+        unit: &Unit,
+        index: u32,
+        rows: &[Option<Ended>],
+    )
         requires end { index < length (thermal_of unit.now).window }
         requires rows { suc index < length rows.now }
         requires room { suc index < length self.old.list.items }
@@ -171,11 +181,11 @@ impl Origins {
             self.off_from = index + 1;
             return;
         }
-        self.take_ripe(unit, index + 1, rows);
+        self.insert_spell_end_with_min_down_met(unit, index + 1, rows);
     }
 
     /// Whether one of the ends costs no more than a limit. A start after any other one costs more.
-    pub fn is_within(&self, limit: i64) -> bool
+    pub fn has_spell_end_within_cost(&self, limit: i64) -> bool
         requires { self.now.count ≤ length self.now.list.items }
         ensures { IsFalse result → (i : ℕ) (o : Origin) → i < self.now.count →
             slice_get self.now.list.items i ≡ Some o → (limit +ℤ pos 1) ≤ℤ o.cost }
@@ -206,7 +216,7 @@ impl Origins {
         for index in 0..self.count {
             let origin = *self.list.get(index as usize);
             let cost = sum_of_costs(origin.cost, cost_of_start_after(unit, origin.last, period));
-            least = lesser_entry(least, Some(cost), origin.last);
+            least = lesser_spell_entry(least, Some(cost), origin.last);
         }
         least
     }

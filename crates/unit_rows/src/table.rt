@@ -54,7 +54,7 @@ pub fn sum_of_costs(a: i64, b: i64) -> i64
 }
 
 /// The lesser of two, and the first where they are equal.
-pub fn lesser_entry(least: Option<Entry>, cost: Option<i64>, last: u32) -> Option<Entry>
+pub fn lesser_spell_entry(least: Option<Entry>, cost: Option<i64>, last: u32) -> Option<Entry>
     ensures from { IfSome result
         (λ r. (least ≡ Some r) ⊎ ((cost ≡ Some r.cost) × (r.last ≡ last))) }
     ensures old { (r : Entry) → least ≡ Some r → HasEntryAtMost result r.cost }
@@ -79,7 +79,7 @@ pub fn lesser_entry(least: Option<Entry>, cost: Option<i64>, last: u32) -> Optio
 
 // Whether the cost is at most that in the table, or none is there: of equal ones the later first
 // period is taken.
-fn takes_place_of(row: Option<Ended>, cost: i64) -> bool
+fn is_no_dearer_than_row(row: Option<Ended>, cost: i64) -> bool
     ensures yes { IsTrue result → (r : Ended) → row ≡ Some r → cost ≤ℤ r.cost }
     ensures no { IsFalse result → (r : Ended) × (row ≡ Some r) × ((r.cost +ℤ pos 1) ≤ℤ cost) }
 {
@@ -90,7 +90,7 @@ fn takes_place_of(row: Option<Ended>, cost: i64) -> bool
 }
 
 /// Puts what ends with period `last` into the table, if its cost is at most the cost there.
-pub fn keep_lesser_end(table: &mut Table, last: u32, ended: Ended)
+pub fn write_row_if_no_dearer(table: &mut Table, last: u32, ended: Ended)
     requires room { last < length table.old.items }
     requires within { AreWithin table.old.items }
     requires bound { IsWithinTimes (2 * last + 2) ended.cost }
@@ -105,14 +105,20 @@ pub fn keep_lesser_end(table: &mut Table, last: u32, ended: Ended)
     ensures within { AreWithin table.new.items }
     ensures length { length table.new.items ≡ length table.old.items }
 {
-    if takes_place_of(table.as_slice()[last as usize], ended.cost) {
+    if is_no_dearer_than_row(table.as_slice()[last as usize], ended.cost) {
         table.set(last as usize, Some(ended));
     }
 }
 
 /// Puts a spell to period `last`, entered at a cost, into the table, if there is one: the lesser
 /// cost stays, and of equal ones the later.
-pub fn keep_spell_end(table: &mut Table, last: u32, first: u32, entry: &Entry, net: Option<i64>)
+pub fn write_spell_end_if_no_dearer(
+    table: &mut Table,
+    last: u32,
+    first: u32,
+    entry: &Entry,
+    net: Option<i64>,
+)
     requires room { last < length table.old.items }
     requires order { first ≤ last }
     requires small { last ≤ MOST_PERIODS }
@@ -133,7 +139,7 @@ pub fn keep_spell_end(table: &mut Table, last: u32, first: u32, entry: &Entry, n
             first,
             before: entry.last,
         };
-        keep_lesser_end(table, last, ended);
+        write_row_if_no_dearer(table, last, ended);
     }
 }
 
@@ -163,7 +169,7 @@ fn row_before_horizon(unit: &Unit) -> Option<Ended>
 }
 
 /// Empties a table but for row 0, which is what ends before period 1.
-pub fn begin_table(unit: &Unit, table: &mut Table)
+pub fn reset_table_to_row_before_horizon(unit: &Unit, table: &mut Table)
     requires { 1 ≤ length table.old.items }
     ensures first { IsFirstRow (thermal_of unit.now) (row_at table.new.items 0) }
     ensures rest { (l : ℕ) → 1 ≤ l → row_at table.new.items l ≡ None }

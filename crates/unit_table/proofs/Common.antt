@@ -30,13 +30,14 @@ pub use Rattle.unit_table.specs.Taken.{IsSweptTo, AreAsLong, HaveSameRooms, IsEn
 pub use Rattle.unit_rows.specs.Ends.{HasAtMost, IsEntryAfter, IsStarted, IsLeastEntry, IsEntry}
 pub use Rattle.unit_table.specs.Tables.{IsEnded, IsLatest}
 pub use Rattle.unit_rows.specs.declared.origins.Origin.{Origin}
-pub use Rattle.unit_table.specs.declared.runner.Runner.{Runner}
+pub use Rattle.unit_table.specs.declared.runner.RunningSpell.{RunningSpell}
 pub use Rattle.unit_rows.specs.declared.table.Ended.{Ended}
 pub use Rattle.slope_list.specs.Table.{Table, value_of}
 pub use Rattle.slope_list.specs.Slopes.{shown, count_of, room_of, space_of}
 pub use Rattle.slope_list.specs.declared.slopes.Lowest.{Lowest}
 pub use Rattle.spell_run.specs.Frontier.{IsFrontier}
-pub use Rattle.spell_run.specs.Joins.{RunsGoOn, DispatchesGoOn, DispatchesAreRuns}
+pub use Rattle.spell_run.specs.Joins.{RunsMeetingAtPowerContinueAlike, DispatchesMeetingAtPowerContinueAlike}
+pub use Rattle.spell_run.specs.Joins.{DispatchesAreRuns}
 pub use Rattle.plain_lists.specs.Reserved.{Reserved}
 pub use Rattle.spell_run.specs.Logs.{left_by, IsTrace}
 pub use Rattle.spell_run.specs.Notes.{IsOnNoted, IsEndNoted, IsSpellNoted, end_cost}

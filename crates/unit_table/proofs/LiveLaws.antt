@@ -4,7 +4,7 @@ use Rattle.unit_table.proofs.Common.{count_of, room_of}
 use Rattle.unit_table.proofs.Common.{◌≡◌, ◌≢◌, ℕ, zero, suc, ◌+◌, ◌-◌, ◌*◌, ◌<◌, ◌≤◌, inl, inr, Bool, true, false, cond}
 use Rattle.unit_table.proofs.Common.{Option, Some, None, ℤ, pos, ◌+ℤ◌, ◌-ℤ◌, ◌≤ℤ◌, ◌<ℤ◌, List, [], ◌∷◌, length, refl}
 use Rattle.unit_table.proofs.Common.{sym, ap, ◌∙◌, subst, arith, slice_get, slice_set, ints}
-use Rattle.unit_table.proofs.Common.{cases_eq, Table, value_of, ThermalUnit, PriceLists, Runner, Logged, Trace}
+use Rattle.unit_table.proofs.Common.{cases_eq, Table, value_of, ThermalUnit, PriceLists, RunningSpell, Logged, Trace}
 use Rattle.unit_table.proofs.Common.{HaveSameRooms, left_by, IsTrace, AreTraces, ◌⊎◌}
 use Rattle.spell_run.specs.Logs.{AreLogged}
 use Rattle.unit_table.proofs.Common.{going_of, live_at, left_of, left_at, AreRoomy, AreSmall, IsUnder, IsBeyond}
@@ -30,23 +30,23 @@ when_some true a x is = (refl, (cc))
 when_some false a x is = absurd (cc)
 
 -- a runner that is on is one of the list
-pub on_some : (o : Option Runner) (x : Going) → going_of o ≡ Some x →
-    (r : Runner) × (o ≡ Some r) × (r.is_on ≡ true) × (x ≡ state_of r)
+pub on_some : (o : Option RunningSpell) (x : Going) → going_of o ≡ Some x →
+    (r : RunningSpell) × (o ≡ Some r) × (r.is_on ≡ true) × (x ≡ state_of r)
 on_some None x is = absurd (cc)
 on_some (Some r) x is = (let h = when_some (r.is_on) (state_of r) x is in (r, refl, h.0, sym h.1))
 
-pub going_on : (r : Runner) → r.is_on ≡ true → going_of (Some r) ≡ Some (state_of r)
+pub going_on : (r : RunningSpell) → r.is_on ≡ true → going_of (Some r) ≡ Some (state_of r)
 going_on r on = ap (λ (b : Bool). cond b (Some (state_of r)) None) on
 
-pub going_off : (r : Runner) → r.is_on ≡ false → going_of (Some r) ≡ None
+pub going_off : (r : RunningSpell) → r.is_on ≡ false → going_of (Some r) ≡ None
 going_off r off = cc
 
 -- ---- one of the list read
 
-pub on_same : (o : Option Runner) (r s : Runner) → o ≡ Some r → o ≡ Some s → r.is_on ≡ true → s.is_on ≡ true
+pub on_same : (o : Option RunningSpell) (r s : RunningSpell) → o ≡ Some r → o ≡ Some s → r.is_on ≡ true → s.is_on ≡ true
 on_same o r s a b on = (let same : r ≡ s = (cc) in rw same at on)
 
-module _ (runners : List Runner) (i : ℕ) (r : Runner) (is : slice_get runners i ≡ Some r) where
+module _ (runners : List RunningSpell) (i : ℕ) (r : RunningSpell) (is : slice_get runners i ≡ Some r) where
   pub live_from : r.is_on ≡ true → live_at runners i ≡ Some (state_of r)
   live_from on = ap going_of is ∙ going_on r on
 
@@ -74,13 +74,13 @@ beyond_of f e limit above x v there = (let over = above x v there in omega (arit
 
 -- ---- one of the list written
 
-module _ (runners runners' : List Runner) (i : ℕ) (a : Runner)
+module _ (runners runners' : List RunningSpell) (i : ℕ) (a : RunningSpell)
     (room : i < length runners) (set : runners' ≡ slice_set runners i a) where
   pub written_here : slice_get runners' i ≡ Some a
-  written_here = ap (λ (xs : List Runner). slice_get xs i) set ∙ get_set_same runners i a room
+  written_here = ap (λ (xs : List RunningSpell). slice_get xs i) set ∙ get_set_same runners i a room
 
   pub written_other : (j : ℕ) → j ≢ i → slice_get runners' j ≡ slice_get runners j
-  written_other j other = ap (λ (xs : List Runner). slice_get xs j) set ∙ get_set_other runners i j a other
+  written_other j other = ap (λ (xs : List RunningSpell). slice_get xs j) set ∙ get_set_other runners i j a other
 
   pub live_here : live_at runners' i ≡ going_of (Some a)
   live_here = ap going_of written_here
@@ -89,8 +89,9 @@ module _ (runners runners' : List Runner) (i : ℕ) (a : Runner)
   live_other j other = ap going_of (written_other j other)
 
   -- what holds of each runner
-  pub each_written : (P : Runner → Type 0) → P a → ((j : ℕ) (r : Runner) → slice_get runners j ≡ Some r → P r) →
-      (j : ℕ) (r : Runner) → slice_get runners' j ≡ Some r → P r
+  pub each_written : (P : RunningSpell → Type 0) → P a →
+      ((j : ℕ) (r : RunningSpell) → slice_get runners j ≡ Some r → P r) →
+      (j : ℕ) (r : RunningSpell) → slice_get runners' j ≡ Some r → P r
   each_written P here all j r is = elim (cases_eq j i) [
     | inl z ↦ (let same : a ≡ r = (let e = ap (λ (k : ℕ). slice_get runners' k) z in let w = written_here in cc) in
         subst P same here)
@@ -131,21 +132,21 @@ slice_get_none (x ∷ xs) (suc f) h = (let e = slice_get_none xs f h in omega ar
 
 -- ---- the same runners, of which some were stopped or begun
 
-kept_one : (r : Runner) → IsKeptFrom r r
+kept_one : (r : RunningSpell) → IsKeptFrom r r
 kept_one r = record { room_same = refl; trace = refl; pieces = λ on. inr (on, refl) }
 
-pub stopped_one : (old a : Runner) → a.is_on ≡ false → a.running ≡ old.running → a.trace ≡ old.trace →
+pub stopped_one : (old a : RunningSpell) → a.is_on ≡ false → a.running ≡ old.running → a.trace ≡ old.trace →
     IsKeptFrom old a
 stopped_one old a off same trace = record { room_same = ap room_of same; trace = trace; pieces = λ on. absurd (cc) }
 
-pub begun_one : (old a : Runner) → count_of a.running ≡ 0 → room_of a.running ≡ room_of old.running →
+pub begun_one : (old a : RunningSpell) → count_of a.running ≡ 0 → room_of a.running ≡ room_of old.running →
     a.trace ≡ old.trace → IsKeptFrom old a
 begun_one old a none same trace = record { room_same = same; trace = trace; pieces = λ on. inl none }
 
-pub kept_none : (runners : List Runner) → AreKept runners runners
+pub kept_none : (runners : List RunningSpell) → AreKept runners runners
 kept_none runners = record { count_same = refl; each = λ f r is. (r, is, kept_one r) }
 
-pub kept_then : (a b d : List Runner) → AreKept a b → AreKept b d → AreKept a d
+pub kept_then : (a b d : List RunningSpell) → AreKept a b → AreKept b d → AreKept a d
 kept_then a b d early late = record {
   count_same = cc;
   each = λ f r is.
@@ -167,11 +168,11 @@ kept_then a b d early late = record {
       );
 }
 
-pub kept_written : (runners runners' : List Runner) (i : ℕ) (a old : Runner) → i < length runners →
+pub kept_written : (runners runners' : List RunningSpell) (i : ℕ) (a old : RunningSpell) → i < length runners →
     runners' ≡ slice_set runners i a → slice_get runners i ≡ Some old → IsKeptFrom old a →
     AreKept runners runners'
 kept_written runners runners' i a old low set was kept = record {
-  count_same = ap (λ (xs : List Runner). length xs) set ∙ length-set runners i a;
+  count_same = ap (λ (xs : List RunningSpell). length xs) set ∙ length-set runners i a;
   each = λ f r is. elim (cases_eq f i) [
     | inl z ↦
         let e = ap (λ (k : ℕ). slice_get runners' k) z in
@@ -185,7 +186,7 @@ kept_written runners runners' i a old low set was kept = record {
   ];
 }
 
-module _ (old new : List Runner) (kept : AreKept old new) where
+module _ (old new : List RunningSpell) (kept : AreKept old new) where
   -- those that are on were so before, or begin with a period that is still to come
   pub kept_roomy : (periods t charge : ℕ) →
       ((f : ℕ) → ((live_at new f ≡ live_at old f) ⊎ (live_at new f ≡ None)) ⊎ (t ≤ f - 1)) →
@@ -231,34 +232,34 @@ module _ (old new : List Runner) (kept : AreKept old new) where
       (let k = kept.each f r is in subst (IsTrace log) (sym k.2.trace) (traces f k.0 k.1))
 
 -- nothing is left yet
-pub none_trails : (log : List Logged) (runners : List Runner) →
-    ((f : ℕ) (r : Runner) → slice_get runners f ≡ Some r → r.trace.count ≡ 0) → AreTraces log runners
+pub none_trails : (log : List Logged) (runners : List RunningSpell) →
+    ((f : ℕ) (r : RunningSpell) → slice_get runners f ≡ Some r → r.trace.count ≡ 0) → AreTraces log runners
 none_trails log runners none f r is = subst (AreLogged log r.trace.last) (sym (none f r is)) tt
 
 -- ---- rooms
 
-pub room_one : (runners : List Runner) → HaveSameRooms runners runners
+pub room_one : (runners : List RunningSpell) → HaveSameRooms runners runners
 room_one runners = record { count_same = refl; keeps = λ room have. have }
 
-pub rooms_then : (a b d : List Runner) → HaveSameRooms a b → HaveSameRooms b d → HaveSameRooms a d
+pub rooms_then : (a b d : List RunningSpell) → HaveSameRooms a b → HaveSameRooms b d → HaveSameRooms a d
 rooms_then a b d early late = record {
   count_same = late.count_same ∙ early.count_same;
   keeps = λ room have. late.keeps room (early.keeps room have);
 }
 
-pub rooms_written : (runners runners' : List Runner) (i : ℕ) (a old : Runner) → i < length runners →
+pub rooms_written : (runners runners' : List RunningSpell) (i : ℕ) (a old : RunningSpell) → i < length runners →
     runners' ≡ slice_set runners i a → slice_get runners i ≡ Some old → a.running ≡ old.running →
     HaveSameRooms runners runners'
 rooms_written runners runners' i a old low set was same = record {
-  count_same = ap (λ (xs : List Runner). length xs) set ∙ length-set runners i a;
+  count_same = ap (λ (xs : List RunningSpell). length xs) set ∙ length-set runners i a;
   keeps = λ room have. each_written runners runners' i a low set (λ r. room ≡ room_of r.running)
       (have i old was ∙ sym (ap room_of same)) have;
 }
 
 -- where none is on, the room of each is all its own
-pub off_roomy : (room periods t charge : ℕ) (runners : List Runner) →
+pub off_roomy : (room periods t charge : ℕ) (runners : List RunningSpell) →
     ((f : ℕ) → live_at runners f ≡ None) →
-    ((f : ℕ) (r : Runner) → slice_get runners f ≡ Some r → r.trace.count ≡ 0) →
+    ((f : ℕ) (r : RunningSpell) → slice_get runners f ≡ Some r → r.trace.count ≡ 0) →
     periods * charge ≤ room → HaveRoom room runners → AreRoomy periods t charge runners
 off_roomy room periods t charge runners off none fits have f r is = record {
   whole = (let same = have f r is in omega arith);
@@ -267,7 +268,7 @@ off_roomy room periods t charge runners off none fits have f r is = record {
   none = λ early. none f r is;
 }
 
-pub still_roomy : (periods t u charge : ℕ) (runners : List Runner) → t ≤ u →
+pub still_roomy : (periods t u charge : ℕ) (runners : List RunningSpell) → t ≤ u →
     ((f : ℕ) → live_at runners f ≡ None) → AreRoomy periods t charge runners → AreRoomy periods u charge runners
 still_roomy periods t u charge runners later off roomy f r is = record {
   whole = (roomy f r is).whole;
@@ -310,7 +311,7 @@ fewer_but live live' i off others f = elim (cases_eq f i) [
 ]
 
 -- those before n are off, and the list ends there
-pub all_off : (runners : List Runner) (n : ℕ) → ((f : ℕ) → f < n → live_at runners f ≡ None) →
+pub all_off : (runners : List RunningSpell) (n : ℕ) → ((f : ℕ) → f < n → live_at runners f ≡ None) →
     length runners ≤ n → (f : ℕ) → live_at runners f ≡ None
 all_off runners n off end f = elim (cases_lt f n) [
   | inl less ↦ off f less

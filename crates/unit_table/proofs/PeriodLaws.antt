@@ -1,7 +1,8 @@
 -- A period of the table, from its runners.
 use Rattle.unit_table.proofs.Common.{◌≡◌, ◌≢◌, ℕ, suc, ◌<◌, Option, Some, None, ℤ, List, length, refl, sym, arith}
 use Rattle.unit_table.proofs.Common.{MustOff, StartCostsAreWithin, ThermalUnit, PriceLists, IsThermalUnit, mark_in}
-use Rattle.unit_table.proofs.Common.{RunsGoOn, DispatchesGoOn, DispatchesAreRuns, Ended, IsFilledTo, row_at, cost_at}
+use Rattle.unit_table.proofs.Common.{RunsMeetingAtPowerContinueAlike, DispatchesMeetingAtPowerContinueAlike}
+use Rattle.unit_table.proofs.Common.{DispatchesAreRuns, Ended, IsFilledTo, row_at, cost_at}
 use Rattle.unit_table.proofs.Common.{first_at, before_at, AreWithin, AreLimits, IsFilledWithin, Going, AreRunners}
 use Rattle.unit_table.proofs.Common.{IsRowOf, IsGoneOn}
 use Rattle.unit_table.proofs.LimitLaws.{table_whole}
@@ -28,14 +29,16 @@ module _ (g : ThermalUnit) (π : PriceLists) (limits : ℕ →
 
   module _ (rows' : List (Option Ended)) (live₁ live₂ : ℕ →
       Option Going) (now : AreRunners g π limits (cost_at rows) live₁ t (suc (suc t))) where
-    pub period_run : (most : ℤ) → AreLimits g π most limits → RunsGoOn → (mark_in g.window (suc t) ≡ MustOff → ⊥) →
+    pub period_run : (most : ℤ) → AreLimits g π most limits → RunsMeetingAtPowerContinueAlike →
+        (mark_in g.window (suc t) ≡ MustOff → ⊥) →
         ((f : ℕ) (r : Going) → live₁ f ≡ Some r → IsGoneOn g π t f r (live₂ f)) →
         ((f : ℕ) → live₁ f ≡ None → live₂ f ≡ None) →
         AreRunners g π limits (cost_at rows) live₂ (suc t) (suc (suc t))
     period_run most right go may goes only = run_on g π limits (cost_at rows) t live₁ live₂ most right go within now may
         goes only
 
-    pub period_filled : (most : ℤ) → AreLimits g π most limits → DispatchesGoOn → DispatchesAreRuns →
+    pub period_filled : (most : ℤ) → AreLimits g π most limits → DispatchesMeetingAtPowerContinueAlike →
+        DispatchesAreRuns →
         (live₃ : ℕ → Option Going) → AreRunners g π limits (cost_at rows) live₃ (suc t) (suc (suc t)) →
         IsRowOf g π (length π.energy) live₁ (suc (suc t)) (suc t) (cost_at rows' (suc t)) (first_at rows' (suc t))
         (before_at rows' (suc t)) →

@@ -1,7 +1,7 @@
 -- The list of the runners that are on: one more, some fewer, and a loop over it.
 use Rattle.unit_table.proofs.Common.{◌≡◌, ◌≢◌, ℕ, suc, ◌+◌, ◌<◌, ◌≤◌, ◌⊎◌, inl, inr, Option, Some, None, ℤ, List}
 use Rattle.unit_table.proofs.Common.{length, refl, sym, ap, ◌∙◌, subst, arith, slice_get, slice_set}
-use Rattle.unit_table.proofs.Common.{cases_lt, cases_eq, ThermalUnit, PriceLists, Runner, Ended, going_of}
+use Rattle.unit_table.proofs.Common.{cases_lt, cases_eq, ThermalUnit, PriceLists, RunningSpell, Ended, going_of}
 use Rattle.unit_table.proofs.Common.{live_at, AreRoomy, IsRoster, Going, IsRowOf, IsOneRun, Logged, Reserved}
 use Rattle.unit_table.proofs.Common.{Asked, periods_of}
 use Rattle.unit_table.specs.declared.roster.Roster.{Roster}
@@ -221,12 +221,12 @@ row_further g π periods live n m l end first before more off row = record {
   sound = λ v is. (let h = row.sound v is in let low = h.2 in (h.0, h.1, omega arith, h.3, h.4, h.5));
 }
 
-module _ (a : Asked) (rows₀ : List (Option Ended)) (runners₀ : List Runner)
+module _ (a : Asked) (rows₀ : List (Option Ended)) (runners₀ : List RunningSpell)
     (log₀ : Reserved Logged)
   where
     -- the first i of the list have run
     pub record IsListRun (roster : Roster) (bound i : ℕ) (rows : List (Option Ended))
-        (runners : List Runner) (log : Reserved Logged) : Type 0
+        (runners : List RunningSpell) (log : Reserved Logged) : Type 0
       where
         pub until : ℕ
         pub most : until ≤ bound
@@ -245,7 +245,7 @@ module _ (a : Asked) (rows₀ : List (Option Ended)) (runners₀ : List Runner)
     }
 
     module _ (roomy₀ : AreRoomy (periods_of a) a.index a.charge runners₀) where
-      run_skip : (n m : ℕ) (rows : List (Option Ended)) (runners : List Runner) (log : Reserved Logged) → n ≤ m →
+      run_skip : (n m : ℕ) (rows : List (Option Ended)) (runners : List RunningSpell) (log : Reserved Logged) → n ≤ m →
           ((f : ℕ) → n ≤ f → f < m → live_at runners₀ f ≡ None) →
           IsRunTo a rows₀ runners₀ log₀ n rows runners log →
           IsRunTo a rows₀ runners₀ log₀ m rows runners log
@@ -290,7 +290,7 @@ module _ (a : Asked) (rows₀ : List (Option Ended)) (runners₀ : List Runner)
       }
 
       module _ (roster : Roster) (bound : ℕ) (list : IsRoster (live_at runners₀) bound roster) where
-        module _ (i : ℕ) (rows : List (Option Ended)) (runners : List Runner) (log : Reserved Logged)
+        module _ (i : ℕ) (rows : List (Option Ended)) (runners : List RunningSpell) (log : Reserved Logged)
             (so_far : IsListRun roster bound i rows runners log) (inside : i < roster.count) (first : ℕ)
             (is : slice_get roster.firsts.items i ≡ Some first) where
           off_between : (f : ℕ) → so_far.until ≤ f → f < first → live_at runners₀ f ≡ None
@@ -317,7 +317,7 @@ module _ (a : Asked) (rows₀ : List (Option Ended)) (runners₀ : List Runner)
               (so_far.left i first (omega arith) inside is) off_between
               so_far.run
 
-          pub one_run : (rows' : List (Option Ended)) (runners' : List Runner) (log' : Reserved Logged) →
+          pub one_run : (rows' : List (Option Ended)) (runners' : List RunningSpell) (log' : Reserved Logged) →
               IsOneRun a first rows rows' runners runners' log log' →
               IsListRun roster bound (i + 1) rows' runners' log'
           one_run rows' runners' log' one = record {
@@ -333,7 +333,7 @@ module _ (a : Asked) (rows₀ : List (Option Ended)) (runners₀ : List Runner)
                 (let later = list.rising i j first f (omega arith) low is there in omega arith);
           }
 
-        module _ (i : ℕ) (rows : List (Option Ended)) (runners : List Runner) (log : Reserved Logged)
+        module _ (i : ℕ) (rows : List (Option Ended)) (runners : List RunningSpell) (log : Reserved Logged)
             (all : IsListRun roster bound i rows runners log) (end : roster.count ≤ i) where
           pub none_later : (f : ℕ) (r : Going) → live_at runners₀ f ≡ Some r → f < all.until
           none_later f r on = (let h = list.all f r on in all.done h.0 f (omega arith) h.2)

@@ -2,7 +2,8 @@
 use Rattle.unit_table.proofs.Common.{◌≡◌, ◌≢◌, ℕ, suc, ◌<◌, ◌≤◌, ◌⊎◌, inl, inr, true, false, Option, Some, None, ℤ, pos}
 use Rattle.unit_table.proofs.Common.{◌+ℤ◌, ◌≤ℤ◌, List, length, refl, sym, ap, ◌∙◌, subst, arith, IsTrue, IsFalse}
 use Rattle.unit_table.proofs.Common.{ints, cases_lt, MustOff, ThermalUnit, PriceLists, Schedule}
-use Rattle.unit_table.proofs.Common.{IsThermalUnit, mark_in, DispatchesGoOn, DispatchesAreRuns, IsDispatch, net_cost}
+use Rattle.unit_table.proofs.Common.{IsThermalUnit, mark_in, DispatchesMeetingAtPowerContinueAlike, DispatchesAreRuns}
+use Rattle.unit_table.proofs.Common.{IsDispatch, net_cost}
 use Rattle.unit_table.proofs.Common.{spell_cost, Ended, row_at, cost_at, first_at, before_at, IsFirstRow, AreLimits}
 use Rattle.unit_table.proofs.Common.{IsSpell, StopsAtOnce, HasAtMost, IsEntry, IsLeastEntry, IsEnded, IsLatest, Going}
 use Rattle.unit_table.proofs.Common.{MayBeOn, AreRunners, IsTableTo, IsRowOf}
@@ -127,7 +128,8 @@ module _ (g : ThermalUnit) (π : PriceLists) (limits : ℕ → ℤ) (unit : IsTh
     none = none_more;
   }
 
-  module _ (most : ℤ) (limits_right : AreLimits g π most limits) (go : DispatchesGoOn) (are_runs : DispatchesAreRuns)
+  module _ (most : ℤ) (limits_right : AreLimits g π most limits) (go : DispatchesMeetingAtPowerContinueAlike)
+      (are_runs : DispatchesAreRuns)
       (live : ℕ → Option Going) (now : AreRunners g π limits ends live t (suc (suc t)))
       (row : IsRowOf g π T live (suc (suc t)) (suc t) (ends' (suc t)) (firsts' (suc t)) (lasts' (suc t))) where
     -- a dispatch of a runner that is as cheap

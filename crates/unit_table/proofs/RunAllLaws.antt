@@ -5,7 +5,7 @@ use Rattle.unit_table.proofs.Common.{Option, Some, None, List, length, refl, sym
 use Rattle.unit_table.proofs.Common.{slice_set, slice_get-get_or, slice_get_within, cases_lt, cases_eq}
 use Rattle.unit_table.proofs.Common.{Asked, periods_of}
 use Rattle.unit_table.proofs.Common.{shown, value_of, state_of, Logged, Reserved, IsTrace, AreTraces, IsOnNoted}
-use Rattle.unit_table.proofs.Common.{IsEntryMore, left_by, Runner, Ended, going_of, live_at, left_of, left_at}
+use Rattle.unit_table.proofs.Common.{IsEntryMore, left_by, RunningSpell, Ended, going_of, live_at, left_of, left_at}
 use Rattle.unit_table.proofs.Common.{IsRoomy, AreRoomy}
 use Rattle.unit_table.proofs.Common.{HaveRoom, row_at, cost_at, first_at, before_at, AreWithin, Going, IsGoneOn}
 use Rattle.unit_table.proofs.Common.{IsEndLeft, IsRowTo, IsRowMore, IsOneRun, IsRunOver, length-set}
@@ -15,9 +15,9 @@ use Rattle.unit_table.proofs.RowLaws.{cost-same, first-same}
 use Rattle.unit_table.proofs.RunnerRowLaws.{row_none, row_skip}
 
 module _ (a : Asked) where
-  module _ (rows₀ : List (Option Ended)) (runners₀ : List Runner) (log₀ : Reserved Logged) where
+  module _ (rows₀ : List (Option Ended)) (runners₀ : List RunningSpell) (log₀ : Reserved Logged) where
     -- what those before n have changed
-    pub record IsRunTo (n : ℕ) (rows : List (Option Ended)) (runners : List Runner) (log : Reserved Logged) :
+    pub record IsRunTo (n : ℕ) (rows : List (Option Ended)) (runners : List RunningSpell) (log : Reserved Logged) :
         Type 0 where
       pub row : IsRowTo a (live_at runners₀) n rows
       pub others : (l : ℕ) → l ≢ suc a.index → row_at rows l ≡ row_at rows₀ l
@@ -27,7 +27,7 @@ module _ (a : Asked) where
           IsGoneOn a.unit a.prices a.index f r (live_at runners f)
       pub off : (f : ℕ) → f < n → live_at runners₀ f ≡ None → live_at runners f ≡ None
       pub rest : (f : ℕ) → n ≤ f → slice_get runners f ≡ slice_get runners₀ f
-      pub roomy : (f : ℕ) (r : Runner) → f < n → slice_get runners f ≡ Some r →
+      pub roomy : (f : ℕ) (r : RunningSpell) → f < n → slice_get runners f ≡ Some r →
           IsRoomy (periods_of a) (suc a.index) a.charge f r
       pub ends : (v : ℤ) → cost_at rows (suc a.index) ≡ Some v →
           IsEndLeft a.unit a.prices (first_at rows (suc a.index)) a.index
@@ -70,7 +70,7 @@ module _ (a : Asked) where
       | inr most ↦ let z : n ≡ f = omega arith in subst P z here
     ]
 
-    pub run_more : (n : ℕ) (rows rows' : List (Option Ended)) (runners runners' : List Runner)
+    pub run_more : (n : ℕ) (rows rows' : List (Option Ended)) (runners runners' : List RunningSpell)
         (log log' : Reserved Logged) →
         IsRunTo n rows runners log → IsOneRun a n rows rows' runners runners' log log' →
         IsRunTo (n + 1) rows' runners' log'
@@ -135,7 +135,7 @@ module _ (a : Asked) where
         })
 
     -- none begins later
-    module _ (rows : List (Option Ended)) (runners : List Runner) (log : Reserved Logged)
+    module _ (rows : List (Option Ended)) (runners : List RunningSpell) (log : Reserved Logged)
         (all : IsRunTo (suc (suc a.index)) rows runners log)
         (none : (f : ℕ) (r : Going) → live_at runners₀ f ≡ Some r → f < suc (suc a.index))
         (roomy₀ : AreRoomy (periods_of a) a.index a.charge runners₀) where
@@ -180,100 +180,102 @@ module _ (a : Asked) where
 
 -- ---- one runner over the period, or none
 
-pub item_at : (runners : List Runner) (i : ℕ) → i < length runners → (d : Runner) →
+pub item_at : (runners : List RunningSpell) (i : ℕ) → i < length runners → (d : RunningSpell) →
     slice_get runners i ≡ Some (get_or runners i d)
 item_at runners i low d = slice_get-get_or runners i d low
 
-module _ (a : Asked) (rows rows' : List (Option Ended)) (runners : List Runner) (i : ℕ) (log : Reserved Logged) where
-  -- the runner at i is on, and goes to b
-  module _ (old b : Runner) (at : slice_get runners i ≡ Some old) (on : old.is_on ≡ true) (log' : Reserved Logged) where
-    here : slice_get (slice_set runners i b) i ≡ Some b
-    here = get_set_same runners i b (slice_get_within runners i old at)
+module _ (a : Asked) (rows rows' : List (Option Ended)) (runners : List RunningSpell) (i : ℕ) (log : Reserved Logged)
+  where
+    -- the runner at i is on, and goes to b
+    module _ (old b : RunningSpell) (at : slice_get runners i ≡ Some old) (on : old.is_on ≡ true)
+        (log' : Reserved Logged) where
+      here : slice_get (slice_set runners i b) i ≡ Some b
+      here = get_set_same runners i b (slice_get_within runners i old at)
 
-    same_left : (k : ℕ) → left_at log'.items (slice_set runners i b) i k ≡ left_by log'.items b.trace k
-    same_left k = ap (λ o. left_of log'.items o k) here
+      same_left : (k : ℕ) → left_at log'.items (slice_set runners i b) i k ≡ left_by log'.items b.trace k
+      same_left k = ap (λ o. left_of log'.items o k) here
 
-    -- what the others left
-    others_left : AreTraces log.items runners → IsEntryMore log log' old.trace b.trace → (f k : ℕ) → f ≢ i →
-        left_at log'.items (slice_set runners i b) f k ≡ left_at log.items runners f k
-    others_left traces entry f k other =
-        ap (λ o. left_of log'.items o k) (get_set_other runners i f b other) ∙
-        (elim (slice_get runners f) as (λ o. slice_get runners f ≡ o →
-        left_of log'.items o k ≡ left_of log.items o k) [
-          | None ↦ λ is. refl
-          | Some r ↦ λ is. (entry.others r.trace (traces f r is)).1 k
-        ] refl)
+      -- what the others left
+      others_left : AreTraces log.items runners → IsEntryMore log log' old.trace b.trace → (f k : ℕ) → f ≢ i →
+          left_at log'.items (slice_set runners i b) f k ≡ left_at log.items runners f k
+      others_left traces entry f k other =
+          ap (λ o. left_of log'.items o k) (get_set_other runners i f b other) ∙
+          (elim (slice_get runners f) as (λ o. slice_get runners f ≡ o →
+          left_of log'.items o k ≡ left_of log.items o k) [
+            | None ↦ λ is. refl
+            | Some r ↦ λ is. (entry.others r.trace (traces f r is)).1 k
+          ] refl)
 
-    pub run_written : IsRowMore a i (going_of (Some old)) rows rows' →
-        ((r : Going) → going_of (Some old) ≡ Some r → IsGoneOn a.unit a.prices a.index i r (going_of (Some b))) →
-        (row_at rows' (suc a.index) ≡ row_at rows (suc a.index)) ⊎
-        ((first_at rows' (suc a.index) ≡ i) × IsEndLeft a.unit a.prices i a.index
-        (since i (left_by log'.items b.trace) a.index)) →
-        ((x v : ℤ) → value_of (shown old.running) x ≡ Some v →
-        IsOnNoted a.unit a.prices i a.index (since i (left_by log'.items b.trace) a.index).note) →
-        AreTraces log.items runners → IsEntryMore log log' old.trace b.trace → old.trace.count ≡ a.index - (i - 1) →
-        IsRoomy (periods_of a) (suc a.index) a.charge i b → room_of b.running ≡ room_of old.running →
-        IsOneRun a i rows rows' runners (slice_set runners i b) log log'
-    run_written more goes ends noted traces entry count roomy same =
-        let live = ap going_of at in
-        record {
-          more = rw live more;
-          goes = λ r is. rw (ap going_of here) (goes r (sym live ∙ is));
-          off = λ off. (let is = live_from runners i old at on in absurd (cc));
-          rest = λ f other. get_set_other runners i f b other;
-          roomy = λ r is. (let same : b ≡ r = (let h = here in cc) in rw same at roomy);
-          ends = elim ends [
-            | inl kept ↦ inl kept
-            | inr named ↦ inr (named.0, rw (same_left (a.index - (i - 1))) named.1)
-          ];
-          noted = λ r x v is there.
-              let same_state : state_of old ≡ r = (let live = live_from runners i old at on in cc) in
-              rw (same_left (a.index - (i - 1)))
-              (noted x v (ap (λ (r : Going). value_of r.function x) same_state ∙ there));
-          left = λ k other. same_left k ∙ entry.earlier k (λ z. other (z ∙ count)) ∙
-              sym (ap (λ o. left_of log.items o k) at);
-          left_others = others_left traces entry;
-          traces =
-              each_written runners (slice_set runners i b) i b (slice_get_within runners i old at) refl
-              (λ r. IsTrace log'.items r.trace) entry.there (λ j r is. (entry.others r.trace (traces j r is)).0);
-          entries = (let more = entry.entries in omega arith);
-          log_same = (let more = entry.entries in let spare = entry.spare in omega arith);
-          keeps = λ room have.
-              each_written runners (slice_set runners i b) i b (slice_get_within runners i old at) refl
-              (λ r. room ≡ room_of r.running) (have i old at ∙ sym same) have;
-          count_same = length-set runners i b;
-        }
+      pub run_written : IsRowMore a i (going_of (Some old)) rows rows' →
+          ((r : Going) → going_of (Some old) ≡ Some r → IsGoneOn a.unit a.prices a.index i r (going_of (Some b))) →
+          (row_at rows' (suc a.index) ≡ row_at rows (suc a.index)) ⊎
+          ((first_at rows' (suc a.index) ≡ i) × IsEndLeft a.unit a.prices i a.index
+          (since i (left_by log'.items b.trace) a.index)) →
+          ((x v : ℤ) → value_of (shown old.running) x ≡ Some v →
+          IsOnNoted a.unit a.prices i a.index (since i (left_by log'.items b.trace) a.index).note) →
+          AreTraces log.items runners → IsEntryMore log log' old.trace b.trace → old.trace.count ≡ a.index - (i - 1) →
+          IsRoomy (periods_of a) (suc a.index) a.charge i b → room_of b.running ≡ room_of old.running →
+          IsOneRun a i rows rows' runners (slice_set runners i b) log log'
+      run_written more goes ends noted traces entry count roomy same =
+          let live = ap going_of at in
+          record {
+            more = rw live more;
+            goes = λ r is. rw (ap going_of here) (goes r (sym live ∙ is));
+            off = λ off. (let is = live_from runners i old at on in absurd (cc));
+            rest = λ f other. get_set_other runners i f b other;
+            roomy = λ r is. (let same : b ≡ r = (let h = here in cc) in rw same at roomy);
+            ends = elim ends [
+              | inl kept ↦ inl kept
+              | inr named ↦ inr (named.0, rw (same_left (a.index - (i - 1))) named.1)
+            ];
+            noted = λ r x v is there.
+                let same_state : state_of old ≡ r = (let live = live_from runners i old at on in cc) in
+                rw (same_left (a.index - (i - 1)))
+                (noted x v (ap (λ (r : Going). value_of r.function x) same_state ∙ there));
+            left = λ k other. same_left k ∙ entry.earlier k (λ z. other (z ∙ count)) ∙
+                sym (ap (λ o. left_of log.items o k) at);
+            left_others = others_left traces entry;
+            traces =
+                each_written runners (slice_set runners i b) i b (slice_get_within runners i old at) refl
+                (λ r. IsTrace log'.items r.trace) entry.there (λ j r is. (entry.others r.trace (traces j r is)).0);
+            entries = (let more = entry.entries in omega arith);
+            log_same = (let more = entry.entries in let spare = entry.spare in omega arith);
+            keeps = λ room have.
+                each_written runners (slice_set runners i b) i b (slice_get_within runners i old at) refl
+                (λ r. room ≡ room_of r.running) (have i old at ∙ sym same) have;
+            count_same = length-set runners i b;
+          }
 
-  -- it is off
-  pub run_skipped : live_at runners i ≡ None → AreWithin rows →
-      ((r : Runner) → slice_get runners i ≡ Some r → IsRoomy (periods_of a) a.index a.charge i r) →
-      AreTraces log.items runners → IsOneRun a i rows rows runners runners log log
-  run_skipped off within roomy traces = record {
-    more = record {
-      row = λ live is row. row_skip a.unit a.prices (periods_of a) live i (suc a.index) _ _ _ row
-          (λ r d on spell dispatch. (let none = is ∙ off in cc));
-      others = λ l other. refl;
-      within = within;
-      rows_length = refl;
-    };
-    goes = λ r is. absurd (cc);
-    off = λ off. off;
-    rest = λ f other. refl;
-    roomy = λ r is. (
-        let old = roomy r is in
-        record {
-          whole = old.whole;
-          rest = λ on. (let live = live_from runners i r is on in absurd (cc));
-          count = λ on. (let live = live_from runners i r is on in absurd (cc));
-          none = λ early. old.none (omega arith);
-        });
-    ends = inl refl;
-    noted = λ r x v is. absurd (cc);
-    left = λ k other. refl;
-    left_others = λ f k other. refl;
-    traces = traces;
-    entries = omega arith;
-    log_same = refl;
-    keeps = λ room have. have;
-    count_same = refl;
-  }
+    -- it is off
+    pub run_skipped : live_at runners i ≡ None → AreWithin rows →
+        ((r : RunningSpell) → slice_get runners i ≡ Some r → IsRoomy (periods_of a) a.index a.charge i r) →
+        AreTraces log.items runners → IsOneRun a i rows rows runners runners log log
+    run_skipped off within roomy traces = record {
+      more = record {
+        row = λ live is row. row_skip a.unit a.prices (periods_of a) live i (suc a.index) _ _ _ row
+            (λ r d on spell dispatch. (let none = is ∙ off in cc));
+        others = λ l other. refl;
+        within = within;
+        rows_length = refl;
+      };
+      goes = λ r is. absurd (cc);
+      off = λ off. off;
+      rest = λ f other. refl;
+      roomy = λ r is. (
+          let old = roomy r is in
+          record {
+            whole = old.whole;
+            rest = λ on. (let live = live_from runners i r is on in absurd (cc));
+            count = λ on. (let live = live_from runners i r is on in absurd (cc));
+            none = λ early. old.none (omega arith);
+          });
+      ends = inl refl;
+      noted = λ r x v is. absurd (cc);
+      left = λ k other. refl;
+      left_others = λ f k other. refl;
+      traces = traces;
+      entries = omega arith;
+      log_same = refl;
+      keeps = λ room have. have;
+      count_same = refl;
+    }

@@ -2,7 +2,8 @@
 use Rattle.unit_table.proofs.Common.{◌≡◌, ◌≢◌, ℕ, zero, suc, ◌<◌, ◌≤◌, ◌==◌, false, inl, inr, Option, Some, None, ℤ}
 use Rattle.unit_table.proofs.Common.{pos, ◌+ℤ◌, ◌≤ℤ◌, length, refl, sym, ap, ◌∙◌, subst, arith, ints, cases_lt}
 use Rattle.unit_table.proofs.Common.{cases_eq, lt-ltb, Table, value_of, MustOff, ThermalUnit, PriceLists, Schedule}
-use Rattle.unit_table.proofs.Common.{mark_in, IsFrontier, RunsGoOn, net_cost, spell_cost, level, IsRun, AreLimits}
+use Rattle.unit_table.proofs.Common.{mark_in, IsFrontier, RunsMeetingAtPowerContinueAlike, net_cost, spell_cost, level}
+use Rattle.unit_table.proofs.Common.{IsRun, AreLimits}
 use Rattle.unit_table.proofs.Common.{on_time, IsEntry, IsLeastEntry, Going, MayBeOn, IsRunner, HasStandIn, AreRunners}
 use Rattle.unit_table.proofs.Common.{IsGoneOn}
 use Rattle.unit_table.proofs.RangeLaws.{move_in_range, before_low}
@@ -225,7 +226,8 @@ module _ (g : ThermalUnit) (π : PriceLists) (limits : ℕ → ℤ) (ends : ℕ 
 
   -- ---- a period more
 
-  module _ (most : ℤ) (limits_right : AreLimits g π most limits) (go : RunsGoOn) (within : t < length π.energy)
+  module _ (most : ℤ) (limits_right : AreLimits g π most limits) (go : RunsMeetingAtPowerContinueAlike)
+      (within : t < length π.energy)
       (now : AreRunners g π limits ends live t (suc (suc t))) (open_next : mark_in g.window (suc t) ≡ MustOff → ⊥)
       (goes : (f : ℕ) (r : Going) → live f ≡ Some r → IsGoneOn g π t f r (live' f))
       (only : (f : ℕ) → live f ≡ None → live' f ≡ None) where

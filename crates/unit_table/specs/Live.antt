@@ -10,52 +10,52 @@ use Rattle.spell_run.specs.declared.notes.Logged.{Logged}
 use Rattle.spell_run.specs.declared.notes.Passed.{Passed}
 use Rattle.spell_run.specs.Logs.{left_by, IsTrace}
 use Rattle.spell_run.specs.Notes.{passed_at}
-use Rattle.unit_table.specs.declared.runner.Runner.{Runner}
+use Rattle.unit_table.specs.declared.runner.RunningSpell.{RunningSpell}
 use Rattle.unit_rows.specs.declared.table.Ended.{Ended}
 use Rattle.unit_rows.specs.Rows.{cost_at, first_at, before_at, IsWithinTimes, AreWithin}
 use Rattle.unit_table.specs.Runners.{Going, IsTableTo, AreRunners}
 
-abbrev pub state_of : Runner → Going
+abbrev pub state_of : RunningSpell → Going
 state_of r = record {
   before = r.before;
   cost = r.cost;
   function = shown r.running;
 }
 
-abbrev pub going_of : Option Runner → Option Going
+abbrev pub going_of : Option RunningSpell → Option Going
 going_of None = None
 going_of (Some r) = if r.is_on then Some (state_of r) else None
 
 -- the runner that begins with `first`, if it is on
-abbrev pub live_at : List Runner → ℕ → Option Going
+abbrev pub live_at : List RunningSpell → ℕ → Option Going
 live_at runners first = going_of (slice_get runners first)
 
-abbrev pub left_of : List Logged → Option Runner → ℕ → Passed
+abbrev pub left_of : List Logged → Option RunningSpell → ℕ → Passed
 left_of log None k = passed_at [] k
 left_of log (Some r) k = left_by log r.trace k
 
 -- what the runner that begins with `first` left of each period from there on, whether it is on or
 -- not
-abbrev pub left_at : List Logged → List Runner → ℕ → ℕ → Passed
+abbrev pub left_at : List Logged → List RunningSpell → ℕ → ℕ → Passed
 left_at log runners first = left_of log (slice_get runners first)
 
 -- the log has what each runner left
-abbrev pub AreTraces : List Logged → List Runner → Type 0
+abbrev pub AreTraces : List Logged → List RunningSpell → Type 0
 AreTraces log runners =
-    (first : ℕ) (r : Runner) → slice_get runners first ≡ Some r → IsTrace log r.trace
+    (first : ℕ) (r : RunningSpell) → slice_get runners first ≡ Some r → IsTrace log r.trace
 
 -- a runner has room for all periods, and for those after period t where it is on; each asks for as
 -- many pieces as `charge`. Where it is on, it left what it did of each period up to t, and nothing
 -- where it can't have begun
-pub record IsRoomy (periods t charge first : ℕ) (r : Runner) : Type 0 where
+pub record IsRoomy (periods t charge first : ℕ) (r : RunningSpell) : Type 0 where
   pub whole : periods * charge ≤ room_of r.running
   pub rest : IsTrue r.is_on → count_of r.running + (periods - t) * charge ≤ room_of r.running
   pub count : IsTrue r.is_on → r.trace.count ≡ t - (first - 1)
   pub none : t ≤ first - 1 → r.trace.count ≡ 0
 
-abbrev pub AreRoomy : ℕ → ℕ → ℕ → List Runner → Type 0
+abbrev pub AreRoomy : ℕ → ℕ → ℕ → List RunningSpell → Type 0
 AreRoomy periods t charge runners =
-    (first : ℕ) (r : Runner) → slice_get runners first ≡ Some r →
+    (first : ℕ) (r : RunningSpell) → slice_get runners first ≡ Some r →
     IsRoomy periods t charge first r
 
 -- its cost and its values are far within the limits
@@ -81,9 +81,9 @@ IsBelow f e f' e' =
     (x v : ℤ) → value_of f' x ≡ Some v → (u : ℤ) × (value_of f x ≡ Some u) × ((e +ℤ u) ≤ℤ (e' +ℤ v))
 
 -- each runner has room for just so many pieces
-abbrev pub HaveRoom : ℕ → List Runner → Type 0
+abbrev pub HaveRoom : ℕ → List RunningSpell → Type 0
 HaveRoom room runners =
-    (first : ℕ) (r : Runner) → slice_get runners first ≡ Some r → room ≡ room_of r.running
+    (first : ℕ) (r : RunningSpell) → slice_get runners first ≡ Some r → room ≡ room_of r.running
 
 -- a log has memory for all that runners may leave of so many periods: of each as many entries as
 -- runners may have begun by then

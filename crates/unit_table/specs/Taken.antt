@@ -12,7 +12,7 @@ use Rattle.spell_run.specs.Notes.{IsOnNoted}
 use Rattle.spell_run.specs.declared.notes.Trace.{Trace}
 use Rattle.unit_rows.specs.declared.origins.Origins.{Origins}
 use Rattle.unit_table.specs.declared.roster.Roster.{Roster}
-use Rattle.unit_table.specs.declared.runner.Runner.{Runner}
+use Rattle.unit_table.specs.declared.runner.RunningSpell.{RunningSpell}
 use Rattle.unit_rows.specs.declared.table.Ended.{Ended}
 use Rattle.unit_table.specs.Live.{live_at, left_at, AreTraces, IsRoomy, AreRoomy, HaveRoom, HasRoomFor}
 use Rattle.unit_table.specs.Live.{IsFilledTo}
@@ -28,22 +28,22 @@ AreFewer old new = (first : ℕ) → (new first ≡ old first) ⊎ (new first �
 
 -- a runner has the room that it had, and what it left; if it is on, its function is a new one, or
 -- as long as it was
-pub record IsKeptFrom (old new : Runner) : Type 0 where
+pub record IsKeptFrom (old new : RunningSpell) : Type 0 where
   pub room_same : room_of new.running ≡ room_of old.running
   pub trace : new.trace ≡ old.trace
   pub pieces : IsTrue new.is_on → (count_of new.running ≡ 0)
       ⊎ (IsTrue old.is_on × (count_of new.running ≡ count_of old.running))
 
 -- they are as many as before, each with its room
-pub record HaveSameRooms (old new : List Runner) : Type 0 where
+pub record HaveSameRooms (old new : List RunningSpell) : Type 0 where
   pub count_same : length new ≡ length old
   pub keeps : (room : ℕ) → HaveRoom room old → HaveRoom room new
 
 -- so do all
-pub record AreKept (old new : List Runner) : Type 0 where
+pub record AreKept (old new : List RunningSpell) : Type 0 where
   pub count_same : length new ≡ length old
-  pub each : (first : ℕ) (r : Runner) → slice_get new first ≡ Some r →
-      (o : Runner) × (slice_get old first ≡ Some o) × IsKeptFrom o r
+  pub each : (first : ℕ) (r : RunningSpell) → slice_get new first ≡ Some r →
+      (o : RunningSpell) × (slice_get old first ≡ Some o) × IsKeptFrom o r
 
 -- the runner that begins with `first` may go over the period
 pub record IsReady (a : Asked) (first : ℕ) (r : Going) : Type 0 where
@@ -78,7 +78,7 @@ pub record IsEntryMore (log log' : Reserved Logged) (trace trace' : Trace) : Typ
   pub spare : suc log'.spare ≡ log.spare
 
 -- the log has what each runner left, and memory for so many entries more
-pub record IsLogFor (more : ℕ) (log : Reserved Logged) (runners : List Runner) : Type 0 where
+pub record IsLogFor (more : ℕ) (log : Reserved Logged) (runners : List RunningSpell) : Type 0 where
   pub traces : AreTraces log.items runners
   pub spare : more ≤ log.spare
   pub small : length log.items + more ≤ 2 ^ 32
@@ -86,13 +86,13 @@ pub record IsLogFor (more : ℕ) (log : Reserved Logged) (runners : List Runner)
 -- the runner that begins with n has gone over the period, if it is on, and no other one; its
 -- entry is left in the log, and what the others left stands as it was
 pub record IsOneRun (a : Asked) (n : ℕ) (rows rows' : List (Option Ended))
-    (runners runners' : List Runner) (log log' : Reserved Logged) : Type 0 where
+    (runners runners' : List RunningSpell) (log log' : Reserved Logged) : Type 0 where
   pub more : IsRowMore a n (live_at runners n) rows rows'
   pub goes : (r : Going) → live_at runners n ≡ Some r →
       IsGoneOn a.unit a.prices a.index n r (live_at runners' n)
   pub off : live_at runners n ≡ None → live_at runners' n ≡ None
   pub rest : (f : ℕ) → f ≢ n → slice_get runners' f ≡ slice_get runners f
-  pub roomy : (r : Runner) → slice_get runners' n ≡ Some r →
+  pub roomy : (r : RunningSpell) → slice_get runners' n ≡ Some r →
       IsRoomy (periods_of a) (suc a.index) a.charge n r
   pub ends : (row_at rows' (suc a.index) ≡ row_at rows (suc a.index))
       ⊎ ((first_at rows' (suc a.index) ≡ n) × IsEndLeft a.unit a.prices n a.index
@@ -112,7 +112,7 @@ pub record IsOneRun (a : Asked) (n : ℕ) (rows rows' : List (Option Ended))
 -- all runners have gone over the period: its row is theirs, no other row is changed, and what
 -- names it left what backtracking needs
 pub record IsRunOver (a : Asked) (rows rows' : List (Option Ended))
-    (runners runners' : List Runner) (log log' : Reserved Logged) : Type 0 where
+    (runners runners' : List RunningSpell) (log log' : Reserved Logged) : Type 0 where
   pub row : IsRowTo a (live_at runners) (suc (suc a.index)) rows'
   pub others : (l : ℕ) → l ≢ suc a.index → row_at rows' l ≡ row_at rows l
   pub within : AreWithin rows'
@@ -138,7 +138,7 @@ pub record IsRunOver (a : Asked) (rows rows' : List (Option Ended))
 
 -- the table is filled up to the place, the runners go on from there, and backtracking is left
 pub record IsSweptTo (a : Asked) (rows : List (Option Ended))
-    (runners : List Runner) (roster : Roster) (log : List Logged) : Type 0 where
+    (runners : List RunningSpell) (roster : Roster) (log : List Logged) : Type 0 where
   pub filled : IsFilledTo a.unit a.prices a.limits a.index rows (live_at runners)
   pub noted : AreAllNoted a.unit a.prices a.index (live_at runners) (left_at log runners)
   pub backtracks : CanBacktrack a.unit a.prices a.index (cost_at rows) (first_at rows) (left_at log runners)
@@ -149,7 +149,7 @@ pub record IsSweptTo (a : Asked) (rows : List (Option Ended))
 
 -- there are more than so many rows, runners and places for ends and first periods
 pub record AreLonger (periods : ℕ) (rows : List (Option Ended))
-    (runners : List Runner) (roster : Roster) (origins : Origins) (log : Reserved Logged) : Type 0
+    (runners : List RunningSpell) (roster : Roster) (origins : Origins) (log : Reserved Logged) : Type 0
   where
     pub rows_end : periods < length rows
     pub runners_end : periods < length runners
@@ -159,7 +159,7 @@ pub record AreLonger (periods : ℕ) (rows : List (Option Ended))
 
 -- as many as there were, each runner and the log with its room
 pub record AreAsLong (rows rows' : List (Option Ended))
-    (runners runners' : List Runner) (roster roster' : Roster) (log log' : Reserved Logged) :
+    (runners runners' : List RunningSpell) (roster roster' : Roster) (log log' : Reserved Logged) :
     Type 0 where
   pub rows_length : length rows' ≡ length rows
   pub count_same : length runners' ≡ length runners

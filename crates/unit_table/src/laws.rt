@@ -4,7 +4,7 @@ ghost use Rattle.unit_table.specs.Laws.{StartsAreWithinLimits, StopsAtOnceCostNo
 
 /// What limits say: a row within its limit is kept as it is, no limit is below the amount, and a
 /// spell that is within its limit starts after an end that is within its own.
-pub fn limits_keep_rows()
+pub fn rows_within_cost_limits_are_kept()
     ensures rows { CappedRowsAreRows }
     ensures amount { LimitsAreAboveTheAmount }
     ensures starts { StartsAreWithinLimits }

@@ -14,5 +14,5 @@ pub mod shared;
 
 pub use periods::fill_table;
 pub use question::{Period, Question};
-pub use runner::Runner;
+pub use runner::RunningSpell;
 pub use shared::Shared;

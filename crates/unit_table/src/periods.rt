@@ -27,27 +27,31 @@ ghost use Rattle.unit_rows.specs.Ends.{IsLeastEntry};
 use crate::question::{Period, Question};
 use crate::roster::Roster;
 use crate::runner::{
-    Runner, begin_runner_of_period, drop_runners_beyond, forget_runners, is_lesser_cost,
-    is_start_undercut, prune_runners, run_runners, stop_runners,
+    RunningSpell, advance_all_running_spells, begin_spell_and_add_to_roster,
+    is_any_running_spell_cheaper, is_lesser_cost, stop_all_running_spells,
+    stop_all_spells_and_forget_their_log, stop_dominated_spells, stop_spells_above_cost_limit,
 };
 use crate::shared::Shared;
 use spell_run::Log;
-use spell_run::laws::{dispatches_are_runs, dispatches_go_on, runs_go_on};
+use spell_run::laws::{
+    dispatches_are_runs, dispatches_meeting_at_power_continue_alike,
+    runs_meeting_at_power_continue_alike,
+};
 use uc_model::laws::start_costs_are_within;
 use uc_model::units::Unit;
 use unit_rows::commitment::is_must_off;
 use unit_rows::origins::Origins;
-use unit_rows::table::{Entry, Table, begin_table};
+use unit_rows::table::{Entry, Table, reset_table_to_row_before_horizon};
 
 // Begins the runner of the period after the one at an index after its least entry, if that is within
 // the limit and no runner undercuts it.
-fn start_after(
+fn begin_spell_unless_undercut(
     unit: &Unit,
     index: u32,
     entry: &Entry,
     limit: i64,
     roster: &mut Roster,
-    runners: &mut [Runner],
+    runners: &mut [RunningSpell],
 )
     requires small_place { index < MOST_PERIODS }
     requires runners { suc index < length runners.old }
@@ -70,21 +74,21 @@ fn start_after(
     if is_lesser_cost(limit, entry.cost) {
         return;
     }
-    if is_start_undercut(runners, roster, unit.min_power, entry.cost) {
+    if is_any_running_spell_cheaper(runners, roster, unit.min_power, entry.cost) {
         return;
     }
-    begin_runner_of_period(unit, index + 1, entry, roster, runners);
+    begin_spell_and_add_to_roster(unit, index + 1, entry, roster, runners);
 }
 
 // Begins the runner of the period after the one at an index, if a spell may begin there within the
 // limit and no runner undercuts it.
-fn start_runner(
+fn begin_spell_of_next_period(
     unit: &Unit,
     index: u32,
     limit: i64,
     origins: &Origins,
     roster: &mut Roster,
-    runners: &mut [Runner],
+    runners: &mut [RunningSpell],
 )
     requires small_place { index < MOST_PERIODS }
     requires list { suc index < length roster.old.firsts.items }
@@ -106,21 +110,21 @@ fn start_runner(
     ensures list { length roster.new.firsts.items ≡ length roster.old.firsts.items }
 {
     start_costs_are_within();
-    if !origins.is_within(limit) {
+    if !origins.has_spell_end_within_cost(limit) {
         return;
     }
     match origins.least(unit, index) {
-        Some(entry) => start_after(unit, index, &entry, limit, roster, runners),
+        Some(entry) => begin_spell_unless_undercut(unit, index, &entry, limit, roster, runners),
         None => {}
     }
 }
 
 // Fills the row of the period at an index.
-fn take_period(
+fn fill_table_row_of_period(
     period: &Period,
     origins: &Origins,
     roster: &mut Roster,
-    runners: &mut [Runner],
+    runners: &mut [RunningSpell],
     table: &mut Table,
     shared: &mut Shared,
 )
@@ -143,16 +147,16 @@ fn take_period(
     let question = period.question;
     let index = period.index;
     if is_must_off(question.unit, index) {
-        stop_runners(runners);
+        stop_all_running_spells(runners);
         roster.clear();
         return;
     }
-    runs_go_on();
-    dispatches_go_on();
+    runs_meeting_at_power_continue_alike();
+    dispatches_meeting_at_power_continue_alike();
     dispatches_are_runs();
     let limit = *question.limits.get(index as usize);
-    start_runner(question.unit, index, limit, origins, roster, runners);
-    run_runners(
+    begin_spell_of_next_period(question.unit, index, limit, origins, roster, runners);
+    advance_all_running_spells(
         period,
         roster,
         runners,
@@ -160,18 +164,18 @@ fn take_period(
         &mut shared.spare,
         &mut shared.log,
     );
-    drop_runners_beyond(
+    stop_spells_above_cost_limit(
         index + 1,
         *question.limits.get(index as usize + 1),
         roster,
         runners,
     );
-    prune_runners(question.unit, index + 1, roster, runners);
+    stop_dominated_spells(question.unit, index + 1, roster, runners);
     roster.keep(runners);
 }
 
 // Begins the runner of the spells that go on from before the horizon, where the unit is on then.
-fn continue_initial_spell(unit: &Unit, roster: &mut Roster, runners: &mut [Runner])
+fn continue_initial_spell(unit: &Unit, roster: &mut Roster, runners: &mut [RunningSpell])
     requires some { 1 ≤ length runners.old }
     requires list { 1 ≤ length roster.old.firsts.items }
     requires none { roster.old.count ≡ 0 }
@@ -184,15 +188,15 @@ fn continue_initial_spell(unit: &Unit, roster: &mut Roster, runners: &mut [Runne
 {
     if unit.on0 {
         let entry = Entry { cost: 0, last: 0 };
-        begin_runner_of_period(unit, 0, &entry, roster, runners);
+        begin_spell_and_add_to_roster(unit, 0, &entry, roster, runners);
     }
 }
 
 // The table and the runners before the first period.
-fn begin_horizon(
+fn reset_table_and_running_spells(
     unit: &Unit,
     roster: &mut Roster,
-    runners: &mut [Runner],
+    runners: &mut [RunningSpell],
     table: &mut Table,
     log: &mut Log,
 )
@@ -210,8 +214,8 @@ fn begin_horizon(
     ensures same { AreAsLong table.old.items table.new.items runners.old runners.new
         roster.old roster.new log.old log.new }
 {
-    begin_table(unit, table);
-    forget_runners(runners);
+    reset_table_to_row_before_horizon(unit, table);
+    stop_all_spells_and_forget_their_log(runners);
     log.clear();
     roster.clear();
     continue_initial_spell(unit, roster, runners);
@@ -226,7 +230,7 @@ pub fn fill_table(
     question: &Question,
     origins: &mut Origins,
     roster: &mut Roster,
-    runners: &mut [Runner],
+    runners: &mut [RunningSpell],
     table: &mut Table,
     shared: &mut Shared,
 )
@@ -251,7 +255,7 @@ pub fn fill_table(
 {
     start_costs_are_within();
     let unit = question.unit;
-    begin_horizon(unit, roster, runners, table, &mut shared.log);
+    reset_table_and_running_spells(unit, roster, runners, table, &mut shared.log);
     origins.begin(unit, table.as_slice());
     let periods = question.prices.energy.len() as u32;
     for index in 0..periods {
@@ -259,7 +263,7 @@ pub fn fill_table(
             question: &*question,
             index,
         };
-        take_period(&period, origins, roster, runners, table, shared);
-        origins.go_on(unit, index, table.as_slice());
+        fill_table_row_of_period(&period, origins, roster, runners, table, shared);
+        origins.advance_to_starts_after_period(unit, index, table.as_slice());
     }
 }

@@ -4,7 +4,7 @@ ghost use Rattle.uc_model.specs.declared.limits.TheConstants.{MOST_PERIODS};
 ghost use Rattle.unit_table.specs.Live.{live_at};
 ghost use Rattle.unit_table.specs.Rosters.{IsRoster};
 
-use crate::runner::{Runner, runner_at};
+use crate::runner::{RunningSpell, running_spell_of_first_period};
 use plain_lists::lists::ReservedList;
 use std::alloc::{AllocError, Global};
 
@@ -56,7 +56,7 @@ impl Roster {
     }
 
     /// Takes those away whose runners are off.
-    pub fn keep(&mut self, runners: &[Runner])
+    pub fn keep(&mut self, runners: &[RunningSpell])
         requires small { self.old.count ≤ 169 }
         requires roster { (until : ℕ) × (until ≤ length runners.now)
             × IsRoster (live_at runners.now) until self.old }
@@ -68,7 +68,7 @@ impl Roster {
         let mut kept = 0;
         for index in 0..self.count {
             let first = *self.firsts.get(index as usize);
-            if runner_at(runners, first).is_on {
+            if running_spell_of_first_period(runners, first).is_on {
                 self.firsts.set(kept as usize, first);
                 kept += 1;
             }

@@ -31,15 +31,18 @@ ghost use Rattle.unit_table.specs.Taken.{IsRunOver};
 use crate::question::Period;
 use crate::roster::Roster;
 use slope_list::{Lowest, Slopes, Spare};
-use spell_run::notes::log_entry;
-use spell_run::{Log, Passage, Passed, Trace, begin_spell, run_over_and_end, run_over_period};
+use spell_run::notes::push_spell_log_entry;
+use spell_run::{
+    Log, Passage, Passed, Trace, advance_spell_and_find_end_cost, advance_spell_over_period,
+    begin_spell_cost_function,
+};
 use uc_model::units::Unit;
-use unit_rows::commitment::{is_long_enough, may_end_spell};
-use unit_rows::table::{Entry, Table, keep_spell_end, sum_of_costs};
+use unit_rows::commitment::{is_min_up_met_by_spell, may_end_spell};
+use unit_rows::table::{Entry, Table, sum_of_costs, write_spell_end_if_no_dearer};
 
 /// The spells that begin with one period; its index in a list of runners is that period, and 0
 /// stands for spells that go on from before the horizon. Where it isn't on, the rest is open.
-pub struct Runner {
+pub struct RunningSpell {
     pub is_on: bool,
     /// The cost of all before the spell and its start, in money.
     pub cost: i64,
@@ -52,9 +55,9 @@ pub struct Runner {
 }
 
 // By hand, so that dropping it is one call.
-impl Drop for Runner {
+impl Drop for RunningSpell {
     fn drop(self) {
-        let Runner {
+        let RunningSpell {
             is_on: _,
             cost: _,
             before: _,
@@ -65,7 +68,7 @@ impl Drop for Runner {
 }
 
 // Begins a runner after an entry.
-fn begin_runner(unit: &Unit, first: u32, entry: &Entry, runner: &mut Runner)
+fn begin_running_spell(unit: &Unit, first: u32, entry: &Entry, runner: &mut RunningSpell)
     ensures on { runner.new.is_on ≡ true }
     ensures cost { runner.new.cost ≡ entry.now.cost }
     ensures before { runner.new.before ≡ entry.now.last }
@@ -78,11 +81,11 @@ fn begin_runner(unit: &Unit, first: u32, entry: &Entry, runner: &mut Runner)
     runner.is_on = true;
     runner.cost = entry.cost;
     runner.before = entry.last;
-    begin_spell(unit, first, &mut runner.running);
+    begin_spell_cost_function(unit, first, &mut runner.running);
 }
 
 /// Stops a runner.
-fn stop_runner(runner: &mut Runner)
+fn stop_running_spell(runner: &mut RunningSpell)
     ensures off { runner.new.is_on ≡ false }
     ensures running { runner.new.running ≡ runner.old.running }
     ensures trace { runner.new.trace ≡ runner.old.trace }
@@ -91,7 +94,7 @@ fn stop_runner(runner: &mut Runner)
 }
 
 /// The runner that begins with a period.
-pub(crate) fn runner_at(runners: &[Runner], first: u32) -> &Runner
+pub(crate) fn running_spell_of_first_period(runners: &[RunningSpell], first: u32) -> &RunningSpell
     requires { first < length runners.now }
     ensures { slice_get runners.now first ≡ Some result.now }
 {
@@ -99,24 +102,24 @@ pub(crate) fn runner_at(runners: &[Runner], first: u32) -> &Runner
 }
 
 // Begins the runner at an index after an entry.
-fn begin_listed_runner(unit: &Unit, first: u32, entry: &Entry, runners: &mut [Runner])
+fn begin_running_spell_at(unit: &Unit, first: u32, entry: &Entry, runners: &mut [RunningSpell])
     requires end { first < length runners.old }
     ensures begun { (r : Going) × (live_at runners.new first ≡ Some r)
         × IsBegun (thermal_of unit.now) first entry.now.last entry.now.cost r }
     ensures others { (f : ℕ) → f ≢ first → live_at runners.new f ≡ live_at runners.old f }
     ensures kept { AreKept runners.old runners.new }
 {
-    begin_runner(unit, first, entry, &mut runners[first as usize]);
+    begin_running_spell(unit, first, entry, &mut runners[first as usize]);
 }
 
 /// Begins the runner of a period after an entry, and puts the period into the roster, which has
 /// earlier ones.
-pub(crate) fn begin_runner_of_period(
+pub(crate) fn begin_spell_and_add_to_roster(
     unit: &Unit,
     first: u32,
     entry: &Entry,
     roster: &mut Roster,
-    runners: &mut [Runner],
+    runners: &mut [RunningSpell],
 )
     requires small { first ≤ MOST_PERIODS }
     requires end { first < length runners.old }
@@ -129,65 +132,65 @@ pub(crate) fn begin_runner_of_period(
     ensures roster { IsRoster (live_at runners.new) (suc first) roster.new }
     ensures list { length roster.new.firsts.items ≡ length roster.old.firsts.items }
 {
-    begin_listed_runner(unit, first, entry, runners);
+    begin_running_spell_at(unit, first, entry, runners);
     roster.add(first);
 }
 
 // Stops the runner at an index.
-fn stop_runner_at(runners: &mut [Runner], index: usize)
+fn stop_running_spell_at(runners: &mut [RunningSpell], index: usize)
     requires { index < length runners.old }
     ensures off { live_at runners.new index ≡ None }
     ensures others { (f : ℕ) → f ≢ index → live_at runners.new f ≡ live_at runners.old f }
     ensures fewer { AreFewer (live_at runners.old) (live_at runners.new) }
     ensures kept { AreKept runners.old runners.new }
 {
-    stop_runner(&mut runners[index]);
+    stop_running_spell(&mut runners[index]);
 }
 
 // Stops a runner, and forgets what it left.
-fn forget_runner(runner: &mut Runner)
+fn stop_spell_and_forget_its_log(runner: &mut RunningSpell)
     ensures off { runner.new.is_on ≡ false }
     ensures running { runner.new.running ≡ runner.old.running }
     ensures trace { runner.new.trace.count ≡ 0 }
 {
-    stop_runner(runner);
+    stop_running_spell(runner);
     runner.trace = Trace::none();
 }
 
 // Stops the runner at an index, and forgets what it left.
-fn forget_runner_at(runners: &mut [Runner], index: usize)
+fn stop_spell_at_and_forget_its_log(runners: &mut [RunningSpell], index: usize)
     requires { index < length runners.old }
     ensures off { live_at runners.new index ≡ None }
-    ensures none { (r : Runner) → slice_get runners.new index ≡ Some r → r.trace.count ≡ 0 }
+    ensures none { (r : RunningSpell) → slice_get runners.new index ≡ Some r → r.trace.count ≡ 0 }
     ensures others { (f : ℕ) → f ≢ index → slice_get runners.new f ≡ slice_get runners.old f }
     ensures rooms { HaveSameRooms runners.old runners.new }
 {
-    forget_runner(&mut runners[index]);
+    stop_spell_and_forget_its_log(&mut runners[index]);
 }
 
 /// Stops all runners, and forgets what they left.
-pub(crate) fn forget_runners(runners: &mut [Runner])
+pub(crate) fn stop_all_spells_and_forget_their_log(runners: &mut [RunningSpell])
     ensures off { (first : ℕ) → live_at runners.new first ≡ None }
-    ensures none { (first : ℕ) (r : Runner) → slice_get runners.new first ≡ Some r → r.trace.count ≡ 0 }
+    ensures none { (first : ℕ) (r : RunningSpell) → slice_get runners.new first ≡ Some r → r.trace.count ≡ 0 }
     ensures rooms { HaveSameRooms runners.old runners.new }
 {
     for index in 0..runners.len() {
-        forget_runner_at(runners, index);
+        stop_spell_at_and_forget_its_log(runners, index);
     }
 }
 
 /// Stops all runners.
-pub(crate) fn stop_runners(runners: &mut [Runner])
+pub(crate) fn stop_all_running_spells(runners: &mut [RunningSpell])
     ensures off { (first : ℕ) → live_at runners.new first ≡ None }
     ensures kept { AreKept runners.old runners.new }
 {
     for index in 0..runners.len() {
-        stop_runner_at(runners, index);
+        stop_running_spell_at(runners, index);
     }
 }
 
 // The value at a power, where that is the first power.
-fn value_at_first(running: &Slopes, power: i64) -> Option<i64>
+fn value_if_first_power(running: &Slopes, power: i64) -> Option<i64>
     ensures { IfSome result (λ v. value_of (shown running.now) power ≡ Some v) }
 {
     match running.first() {
@@ -209,42 +212,57 @@ pub(crate) fn is_lesser_cost(a: i64, b: i64) -> bool
 }
 
 // Whether a runner that is on is at a power, its first, for less than a cost.
-fn undercuts_start(runner: &Runner, power: i64, cost: i64) -> bool
+fn is_spell_cheaper_at_power(runner: &RunningSpell, power: i64, cost: i64) -> bool
     requires bound { IsWithinTimes 400 runner.now.cost }
     requires values { (x v : ℤ) → value_of (shown runner.now.running) x ≡ Some v
         → IsWithinTimes 400 v }
     ensures { OnTrue result
         (IsUnder power cost (state_of runner.now)) }
 {
-    match value_at_first(&runner.running, power) {
+    match value_if_first_power(&runner.running, power) {
         Some(value) => is_lesser_cost(sum_of_costs(runner.cost, value), cost),
         None => false,
     }
 }
 
 // Whether the runner that begins with a period is on, and undercuts a cost at a power.
-fn runner_undercuts(runners: &[Runner], first: u32, power: i64, cost: i64) -> bool
+fn is_running_spell_of_period_cheaper(
+    runners: &[RunningSpell],
+    first: u32,
+    power: i64,
+    cost: i64,
+) -> bool
     requires room { first < length runners.now }
     requires small { AreSmall (live_at runners.now) }
     ensures { OnTrue result ((r : Going) × (live_at runners.now first ≡ Some r)
         × IsUnder power cost r) }
 {
-    let runner = runner_at(runners, first);
+    let runner = running_spell_of_first_period(runners, first);
     if !runner.is_on {
         return false;
     }
-    undercuts_start(runner, power, cost)
+    is_spell_cheaper_at_power(runner, power, cost)
 }
 
 /// Whether one of the runners of a roster is at a power, its first, for less than a cost.
-pub(crate) fn is_start_undercut(runners: &[Runner], roster: &Roster, power: i64, cost: i64) -> bool
+pub(crate) fn is_any_running_spell_cheaper(
+    runners: &[RunningSpell],
+    roster: &Roster,
+    power: i64,
+    cost: i64,
+) -> bool
     requires roster { IsRoster (live_at runners.now) (length runners.now) roster.now }
     requires small { AreSmall (live_at runners.now) }
     ensures { OnTrue result ((first : ℕ) × (r : Going)
         × (live_at runners.now first ≡ Some r) × IsUnder power cost r) }
 {
     for index in 0..roster.count {
-        if runner_undercuts(runners, *roster.firsts.get(index as usize), power, cost) {
+        if is_running_spell_of_period_cheaper(
+            runners,
+            *roster.firsts.get(index as usize),
+            power,
+            cost,
+        ) {
             return true;
         }
     }
@@ -253,7 +271,12 @@ pub(crate) fn is_start_undercut(runners: &[Runner], roster: &Roster, power: i64,
 
 // Takes a runner over the period at an index, and answers what is left for backtracking, with the
 // least net cost of the spells that end with the period, where the unit may stop after it.
-fn step_runner(period: &Period, first: u32, running: &mut Slopes, spare: &mut Spare) -> Passed
+fn advance_spell_with_end_if_allowed(
+    period: &Period,
+    first: u32,
+    running: &mut Slopes,
+    spare: &mut Spare,
+) -> Passed
     requires order { first ≤ suc period.now.index }
     requires frontier { IsFrontier (asked period.now).unit (asked period.now).prices first
         period.now.index (shown running.old) }
@@ -285,9 +308,9 @@ fn step_runner(period: &Period, first: u32, running: &mut Slopes, spare: &mut Sp
         index: index as usize,
     };
     if may_end_spell(unit, prices.energy.len() as u32, first, index + 1) {
-        run_over_and_end(unit, curve, prices, passage, running, spare)
+        advance_spell_and_find_end_cost(unit, curve, prices, passage, running, spare)
     } else {
-        let note = run_over_period(unit, curve, prices, passage, running, spare);
+        let note = advance_spell_over_period(unit, curve, prices, passage, running, spare);
         Passed { note, end: None }
     }
 }
@@ -303,7 +326,7 @@ fn cost_of_end(end: Option<Lowest>) -> Option<i64>
 }
 
 // Stops a runner where no run is left.
-fn stop_if_ended(runner: &mut Runner)
+fn stop_spell_if_no_power_left(runner: &mut RunningSpell)
     requires { runner.old.is_on ≡ true }
     ensures running { runner.new.running ≡ runner.old.running }
     ensures trace { runner.new.trace ≡ runner.old.trace }
@@ -312,16 +335,16 @@ fn stop_if_ended(runner: &mut Runner)
         × IsEmpty (shown runner.old.running)) }
 {
     if runner.running.is_empty() {
-        stop_runner(runner);
+        stop_running_spell(runner);
     }
 }
 
 // Takes a runner that is on over the period at an index, leaves in the log what its backtracking needs,
 // and puts the spells that end with the period into the table.
-fn take_runner(
+fn advance_spell_and_write_table_row(
     period: &Period,
     first: u32,
-    runner: &mut Runner,
+    runner: &mut RunningSpell,
     table: &mut Table,
     spare: &mut Spare,
     log: &mut Log,
@@ -359,18 +382,18 @@ fn take_runner(
         cost: runner.cost,
         last: runner.before,
     };
-    let passed = step_runner(period, first, &mut runner.running, spare);
+    let passed = advance_spell_with_end_if_allowed(period, first, &mut runner.running, spare);
     let index = period.index;
-    runner.trace = log_entry(log, runner.trace, passed);
-    keep_spell_end(table, index + 1, first, &entry, cost_of_end(passed.end));
-    stop_if_ended(runner);
+    runner.trace = push_spell_log_entry(log, runner.trace, passed);
+    write_spell_end_if_no_dearer(table, index + 1, first, &entry, cost_of_end(passed.end));
+    stop_spell_if_no_power_left(runner);
 }
 
 // Takes the runner that begins with a period over the period at an index, if it is on.
-fn run_runner_at(
+fn advance_spell_of_first_period(
     period: &Period,
     first: u32,
-    runners: &mut [Runner],
+    runners: &mut [RunningSpell],
     table: &mut Table,
     spare: &mut Spare,
     log: &mut Log,
@@ -378,9 +401,9 @@ fn run_runner_at(
     requires runners { first < length runners.old }
     requires ready { (r : Going) → live_at runners.old first ≡ Some r
         → IsReady (asked period.now) first r }
-    requires room { (r : Runner) → slice_get runners.old first ≡ Some r
+    requires room { (r : RunningSpell) → slice_get runners.old first ≡ Some r
         → IsRoomy (periods_of (asked period.now)) period.now.index (asked period.now).charge first r }
-    requires alike { (r : Runner) → slice_get runners.old first ≡ Some r
+    requires alike { (r : RunningSpell) → slice_get runners.old first ≡ Some r
         → space_of spare.old ≡ room_of r.running }
     requires rows { periods_of (asked period.now) < length table.old.items }
     requires within { AreWithin table.old.items }
@@ -389,8 +412,8 @@ fn run_runner_at(
         runners.new log.old log.new }
     ensures spare { space_of spare.new ≡ space_of spare.old }
 {
-    if runner_at(runners, first).is_on {
-        take_runner(
+    if running_spell_of_first_period(runners, first).is_on {
+        advance_spell_and_write_table_row(
             period,
             first,
             &mut runners[first as usize],
@@ -403,10 +426,10 @@ fn run_runner_at(
 
 /// Takes all runners that begin up to the period at an index over it, and fills its row. The roster
 /// has all that are on.
-pub(crate) fn run_runners(
+pub(crate) fn advance_all_running_spells(
     period: &Period,
     roster: &Roster,
-    runners: &mut [Runner],
+    runners: &mut [RunningSpell],
     table: &mut Table,
     spare: &mut Spare,
     log: &mut Log,
@@ -430,7 +453,7 @@ pub(crate) fn run_runners(
 {
     for index in 0..roster.count {
         let first = *roster.firsts.get(index as usize);
-        run_runner_at(period, first, runners, table, spare, log);
+        advance_spell_of_first_period(period, first, runners, table, spare, log);
     }
 }
 
@@ -446,7 +469,13 @@ fn cost_difference(a: i64, b: i64) -> i64
 
 // Whether a later runner may stop in each period after the next as an earlier one may, and is
 // nowhere above it.
-fn is_dominated(unit: &Unit, period: u32, first: u32, late: &Runner, early: &Runner) -> bool
+fn is_dominated_by_later_spell(
+    unit: &Unit,
+    period: u32,
+    first: u32,
+    late: &RunningSpell,
+    early: &RunningSpell,
+) -> bool
     requires small { period ≤ MOST_PERIODS }
     requires order { first ≤ period }
     requires late { IsWithinTimes 400 late.now.cost }
@@ -457,19 +486,19 @@ fn is_dominated(unit: &Unit, period: u32, first: u32, late: &Runner, early: &Run
         (IsBelow (shown late.now.running) late.now.cost (shown early.now.running)
         early.now.cost) }
 {
-    is_long_enough(unit, first, period + 1)
+    is_min_up_met_by_spell(unit, first, period + 1)
         && late
             .running
-            .is_below(&early.running, cost_difference(late.cost, early.cost))
+            .is_function_nowhere_above(&early.running, cost_difference(late.cost, early.cost))
 }
 
 // Stops a runner where a later one stands for it, and answers the earliest one that is on then.
-fn prune_runner(
+fn stop_spell_if_dominated(
     unit: &Unit,
     period: u32,
     early: u32,
     late: Option<u32>,
-    runners: &mut [Runner],
+    runners: &mut [RunningSpell],
 ) -> Option<u32>
     requires periods { period ≤ MOST_PERIODS }
     requires early { early ≤ period }
@@ -485,13 +514,19 @@ fn prune_runner(
     ensures fewer { AreFewer (live_at runners.old) (live_at runners.new) }
     ensures kept { AreKept runners.old runners.new }
 {
-    let runner = runner_at(runners, early);
+    let runner = running_spell_of_first_period(runners, early);
     if !runner.is_on {
         return late;
     }
     if let Some(first) = late {
-        if is_dominated(unit, period, first, runner_at(runners, first), runner) {
-            stop_runner_at(runners, early as usize);
+        if is_dominated_by_later_spell(
+            unit,
+            period,
+            first,
+            running_spell_of_first_period(runners, first),
+            runner,
+        ) {
+            stop_running_spell_at(runners, early as usize);
             return Some(first);
         }
     }
@@ -500,7 +535,12 @@ fn prune_runner(
 
 /// Stops each runner that a later one stands for at the end of a period. The roster has all that
 /// are on.
-pub(crate) fn prune_runners(unit: &Unit, period: u32, roster: &Roster, runners: &mut [Runner])
+pub(crate) fn stop_dominated_spells(
+    unit: &Unit,
+    period: u32,
+    roster: &Roster,
+    runners: &mut [RunningSpell],
+)
     requires periods { period ≤ MOST_PERIODS }
     requires end { period < length runners.old }
     requires small { AreSmall (live_at runners.old) }
@@ -514,22 +554,22 @@ pub(crate) fn prune_runners(unit: &Unit, period: u32, roster: &Roster, runners: 
     let mut late = None;
     for back in 0..roster.count {
         let first = *roster.firsts.get((roster.count - back) as usize - 1);
-        late = prune_runner(unit, period, first, late, runners);
+        late = stop_spell_if_dominated(unit, period, first, late, runners);
     }
 }
 
 // Whether a runner is above a cost at each power.
-fn is_beyond_limit(runner: &Runner, limit: i64) -> bool
+fn is_spell_above_cost_limit(runner: &RunningSpell, limit: i64) -> bool
     requires bound { IsWithinTimes 400 runner.now.cost }
     requires values { (x v : ℤ) → value_of (shown runner.now.running) x ≡ Some v
         → IsWithinTimes 400 v }
     ensures { OnTrue result (IsBeyond limit runner.now.cost (shown runner.now.running)) }
 {
-    runner.running.is_above(runner.cost, limit)
+    runner.running.is_function_above_limit(runner.cost, limit)
 }
 
 // Stops the runner that begins with a period, if it is above the limit at each power.
-fn drop_runner_at(limit: i64, first: u32, runners: &mut [Runner])
+fn stop_spell_if_above_cost_limit(limit: i64, first: u32, runners: &mut [RunningSpell])
     requires end { first < length runners.old }
     requires small { AreSmall (live_at runners.old) }
     ensures stands { (g : ThermalUnit) (π : PriceLists) (limits : ℕ → ℤ) (ends : ℕ
@@ -539,18 +579,23 @@ fn drop_runner_at(limit: i64, first: u32, runners: &mut [Runner])
     ensures fewer { AreFewer (live_at runners.old) (live_at runners.new) }
     ensures kept { AreKept runners.old runners.new }
 {
-    let runner = runner_at(runners, first);
+    let runner = running_spell_of_first_period(runners, first);
     if !runner.is_on {
         return;
     }
-    if is_beyond_limit(runner, limit) {
-        stop_runner_at(runners, first as usize);
+    if is_spell_above_cost_limit(runner, limit) {
+        stop_running_spell_at(runners, first as usize);
     }
 }
 
 /// Stops each runner that is above the limit of a period at each power. The roster has all that are
 /// on.
-pub(crate) fn drop_runners_beyond(period: u32, limit: i64, roster: &Roster, runners: &mut [Runner])
+pub(crate) fn stop_spells_above_cost_limit(
+    period: u32,
+    limit: i64,
+    roster: &Roster,
+    runners: &mut [RunningSpell],
+)
     requires end { period < length runners.old }
     requires small { AreSmall (live_at runners.old) }
     requires roster { IsRoster (live_at runners.old) (suc period) roster.now }
@@ -562,6 +607,6 @@ pub(crate) fn drop_runners_beyond(period: u32, limit: i64, roster: &Roster, runn
     ensures kept { AreKept runners.old runners.new }
 {
     for index in 0..roster.count {
-        drop_runner_at(limit, *roster.firsts.get(index as usize), runners);
+        stop_spell_if_above_cost_limit(limit, *roster.firsts.get(index as usize), runners);
     }
 }

@@ -14,7 +14,7 @@ ghost use Rattle.board_store.specs.Answers.{answer_of};
 use super::Board;
 use crate::terms::Terms;
 use board_store::entries::Entry;
-use price_space::greatest_row;
+use price_space::row_of_greatest_dual_value;
 use std::marker::Model;
 use uc_model::cases::{Case, Plan, Row};
 use uc_model::units::Answered;
@@ -111,7 +111,7 @@ impl Closed {
         requires { 1 ≤ length (own_rows self.now) }
         ensures { result ≡ chosen_number (own_rows self.now) }
     {
-        greatest_row(self.board.rows()) as u32 + 1
+        row_of_greatest_dual_value(self.board.rows()) as u32 + 1
     }
 
     /// What the answer kept for a unit earns at the prices of a row, in money. Rows count from 1,
@@ -127,7 +127,7 @@ impl Closed {
 
     /// Leaves the answer kept for a unit at the prices of a row in another over the same periods,
     /// whose lists keep their lengths. Takes no memory.
-    pub fn answer_into(&self, proposal: u32, unit: u32, into: &mut Answered)
+    pub fn copy_answer_out(&self, proposal: u32, unit: u32, into: &mut Answered)
         requires first { 1 ≤ proposal }
         requires last { proposal ≤ length (own_rows self.now) }
         requires unit { unit < unit_count self.now.setup.market }
@@ -137,7 +137,7 @@ impl Closed {
         ensures horizon { length (schedule_of into.new.response).on
             ≡ self.now.setup.market.periods }
     {
-        self.board.answer_into(proposal, unit, into);
+        self.board.copy_answer_out(proposal, unit, into);
     }
 
     /// Gives back what the board was made for, which is within the limits.

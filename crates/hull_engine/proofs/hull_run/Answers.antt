@@ -34,15 +34,16 @@ returns-in-Ready-clause-outcome g c =
     let untouched = subst (λ (b : Before). IsUntouched b (c.hull_before_run.new.out ≡ c.args.out.now)) c.in-Ready.is
     c.hull_before_run.ensures.unwritten in
     let ends = subst (λ out. Ends (rest_of ready) nothing_read
-    (Gains g.S.Sink.held g.S.Sink.faults out c.finish_command.new.out)
-    (FallsShort g.S.Sink.held g.S.Sink.faults g.S.Sink.last out c.finish_command.new.out) c.finish_command.result)
+    (Gains g.S.Sink.held g.S.Sink.faults out c.run_prepared_command.new.out)
+    (FallsShort g.S.Sink.held g.S.Sink.faults g.S.Sink.last out c.run_prepared_command.new.out)
+    c.run_prepared_command.result)
     untouched
-    c.finish_command.ensures.ends in
+    c.run_prepared_command.ensures.ends in
     record {
       reads = before.2.0;
       are_reads = before.2.1;
-      end = c.finish_command.result;
+      end = c.run_prepared_command.result;
       ends = ends_of_rest (command_for (words_of (texts c.args.words.now))) ready.purpose (planned_run ready.terms)
-          ready.terms.budget ready.terms.ahead before.2.0 before.2.2 _ _ c.finish_command.result ends;
+          ready.terms.budget ready.terms.ahead before.2.0 before.2.2 _ _ c.run_prepared_command.result ends;
       status_is = c.status-in-Ready.ensures;
     }

@@ -123,7 +123,7 @@ window c e n =
 pub invariant_of-result-2-clause-convex : goal.invariant_of-result-2-clause-convex
 invariant_of-result-2-clause-convex c =
     let at = goal.at.invariant_of-result-2-clause-convex c in
-    c.effects_keep_convexity.ensures.window c.args.up c.args.down c.args.lo c.args.hi _ _
+    c.operations_keep_convexity.ensures.window c.args.up c.args.down c.args.lo c.args.hi _ _
     (window at.In_ok-values (ends at.After-min-to) (count_is at.After-count_between-count)) c.args.s.now.convex
 
 pub invariant_of-result-2-clause-within : goal.invariant_of-result-2-clause-within
@@ -133,7 +133,7 @@ invariant_of-result-2-clause-within c =
     to_z-of_z w64 _ (record { sfits = c.max-from.type_inv }) in
     let w = window at.In_ok-values (ends at.After-min-to) (count_is at.After-count_between-count) in
     rw from (AreWithin-from_limits c.max-from.result c.in_ok-values.values.items
-    (c.effects_keep_limits.ensures.window c.args.up c.args.down c.args.lo c.args.hi _ _ c.requires.lo c.requires.hi w
+    (c.operations_keep_limits.ensures.window c.args.up c.args.down c.args.lo c.args.hi _ _ c.requires.lo c.requires.hi w
     (within_limits c.args.s.now.lo c.args.s.now.values.items c.args.s.now.within)))
 
 pub returns : goal.returns

@@ -13,6 +13,7 @@ returns-clause-worked g c = record {
 
 pub returns-clause-told : goal.returns-clause-told
 returns-clause-told g c =
-    told c.claims_mean.ensures c.claim.result c.args.worker.now.task _ (view_of c.args.worker.now.seat)
+    told c.claim_answers_tell_board_state.ensures c.claim.result c.args.worker.now.task _
+    (view_of c.args.worker.now.seat)
     (record c.args.worker.now { seat = c.claim.new.seat; task = c.claim.new.into }) c.claim.ensures.call
     c.claim.ensures.unchanged

@@ -24,11 +24,11 @@ returns-in-Some-clause-refused c =
     subst (λ (m : ℕ). u < m) c.unit_count-units.ensures.value c.if-units-task.false in
     differing (differs_from b u ρ v (own_prices_in l n)) c.in-Some.differs
     (held_refusal c.args.marks.now c.args.takers.now (task_number (unit_count b.market) n u) c.args.caller)
-    (sym c.difference_from_own.ensures.differs ∙ c.in-Some.is)
+    (sym c.difference_from_task_of_board.ensures.differs ∙ c.in-Some.is)
     ∙ sym (past_tests b l c.args.marks.now c.args.takers.now c.args.caller n u ρ v one within inside)
 
-pub refusal_at-requires-clause-marks : goal.refusal_at-requires-clause-marks
-refusal_at-requires-clause-marks c =
+pub refusal_if_answered_or_unclaimed-requires-clause-marks : goal.refusal_if_answered_or_unclaimed-requires-clause-marks
+refusal_if_answered_or_unclaimed-requires-clause-marks c =
     let b = setup_of c.args.terms.now in
     let l = c.args.ledger.now in
     let n = c.args.task.now.proposal in
@@ -61,10 +61,11 @@ returns-clause-refused c =
     let inside : u < unit_count b.market =
     subst (λ (m : ℕ). u < m) c.unit_count-units.ensures.value c.if-units-task.false in
     let i = c.task_number-at.ensures ∙ ap (λ (m : ℕ). task_number m n u) c.unit_count-units.ensures.value in
-    c.refusal_at.ensures ∙ ap (λ (j : ℕ). held_refusal c.args.marks.now c.args.takers.now j c.args.caller) i
+    c.refusal_if_answered_or_unclaimed.ensures ∙ ap
+    (λ (j : ℕ). held_refusal c.args.marks.now c.args.takers.now j c.args.caller) i
     ∙ sym (not_differing (differs_from b u ρ v (own_prices_in l n))
     (held_refusal c.args.marks.now c.args.takers.now (task_number (unit_count b.market) n u) c.args.caller)
-    (sym c.difference_from_own.ensures.differs ∙ c.in_default.is))
+    (sym c.difference_from_task_of_board.ensures.differs ∙ c.in_default.is))
     ∙ sym (past_tests b l c.args.marks.now c.args.takers.now c.args.caller n u ρ v one within inside)
 
 pub returns-then-task-eq0-clause-refused : goal.returns-then-task-eq0-clause-refused
@@ -87,21 +88,21 @@ returns-then-units-task-clause-refused c =
     (omega (arith, c.if-task-eq0.false)) (omega (arith, c.if-opened-task.false, c.opened-opened.ensures))
     c.unit_count-units.ensures.value c.if-units-task.true
 
-pub difference_from_own-requires-clause-horizon : goal.difference_from_own-requires-clause-horizon
-difference_from_own-requires-clause-horizon c = λ d. c.requires.horizon (c.args.task.now.proposal - 1) d
+pub difference_from_task_of_board-requires-clause-horizon : goal.difference_from_task_of_board-requires-clause-horizon
+difference_from_task_of_board-requires-clause-horizon c = λ d. c.requires.horizon (c.args.task.now.proposal - 1) d
     (omega (arith, c.if-task-eq0.false, c.if-opened-task.false, c.opened-opened.ensures))
 
-pub difference_from_own-requires-clause-last : goal.difference_from_own-requires-clause-last
-difference_from_own-requires-clause-last c =
+pub difference_from_task_of_board-requires-clause-last : goal.difference_from_task_of_board-requires-clause-last
+difference_from_task_of_board-requires-clause-last c =
     open_within c.args.task.now.proposal c.opened-opened.result c.args.ledger.now.opened
     (length c.args.ledger.now.proposals) c.opened-opened.ensures c.if-opened-task.false c.requires.opened
 
-pub difference_from_own-requires-clause-unit : goal.difference_from_own-requires-clause-unit
-difference_from_own-requires-clause-unit c =
+pub difference_from_task_of_board-requires-clause-unit : goal.difference_from_task_of_board-requires-clause-unit
+difference_from_task_of_board-requires-clause-unit c =
     subst (λ (m : ℕ). c.args.task.now.unit < m) c.unit_count-units.ensures.value c.if-units-task.false
 
-pub difference_from_own-requires-clause-room : goal.difference_from_own-requires-clause-room
-difference_from_own-requires-clause-room c = c.requires.room
+pub difference_from_task_of_board-requires-clause-room : goal.difference_from_task_of_board-requires-clause-room
+difference_from_task_of_board-requires-clause-room c = c.requires.room
 
 pub task_number-at-requires-clause-proposals : goal.task_number-at-requires-clause-proposals
 task_number-at-requires-clause-proposals c =
@@ -111,14 +112,15 @@ task_number-at-requires-clause-proposals c =
 pub task_number-at-requires-clause-inside : goal.task_number-at-requires-clause-inside
 task_number-at-requires-clause-inside c = c.if-units-task.false
 
-pub refusal_at-requires-clause-claimed : goal.refusal_at-requires-clause-claimed
-refusal_at-requires-clause-claimed c = c.requires.takers c.task_number-at.result
+pub refusal_if_answered_or_unclaimed-requires-clause-claimed :
+    goal.refusal_if_answered_or_unclaimed-requires-clause-claimed
+refusal_if_answered_or_unclaimed-requires-clause-claimed c = c.requires.takers c.task_number-at.result
 
 pub returns-in-Some-clause-room : goal.returns-in-Some-clause-room
-returns-in-Some-clause-room c = c.difference_from_own.ensures.room
+returns-in-Some-clause-room c = c.difference_from_task_of_board.ensures.room
 
 pub returns-clause-room : goal.returns-clause-room
-returns-clause-room c = c.difference_from_own.ensures.room
+returns-clause-room c = c.difference_from_task_of_board.ensures.room
 
 pub returns-then-task-eq0-clause-room : goal.returns-then-task-eq0-clause-room
 returns-then-task-eq0-clause-room c = c.requires.room

@@ -7,8 +7,8 @@ returns g c =
     let named = c.run.view_is in
     let e = c.answer_board-closed.ensures in record {
       setup = e.setup ∙ named;
-      row = c.settle_chosen.ensures.0;
-      settled = c.settle_chosen.ensures.1;
+      row = c.settle_at_chosen_prices.ensures.0;
+      settled = c.settle_at_chosen_prices.ensures.1;
       buffer = subst (λ (b : Setup). length (schedule_of c.run.inside.buffer.response).on ≡ b.market.periods) named
           c.run.invariant.1.horizon;
       bench = subst (λ (b : Setup). IsBenchOver b.market c.answer_board-closed.result.1) named

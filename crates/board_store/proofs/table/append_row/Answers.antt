@@ -13,7 +13,7 @@ loop-cell-init g c = record {
 pub loop-cell-preserved : goal.loop-cell-preserved
 loop-cell-preserved g c =
     let l = c.loop-cell in
-    let new = c.add_runs in
+    let new = c.append_runs_of_value in
     record {
       so_far =
           adding_next c.args.lengths.now.items c.args.values.now.items l.lengths.items l.values.items c.args.row.now
@@ -28,7 +28,7 @@ pub returns-clause-added : goal.returns-clause-added
 returns-clause-added g c =
     let l = c.loop-cell in
     let row = c.args.row.now in
-    let new = c.add_runs-2 in
+    let new = c.append_runs_of_value-2 in
     subst (λ (r : List _). IsAdded c.args.lengths.now.items c.args.values.now.items new.new.lengths.items
     new.new.values.items r) (take_all l.cell-index row (omega (arith, c.loop-cell-test.false)))
     (adding_last c.args.lengths.now.items c.args.values.now.items l.lengths.items l.values.items

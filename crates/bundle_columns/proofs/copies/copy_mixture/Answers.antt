@@ -30,8 +30,8 @@ loop-number-init c =
     (mixture_of c.args.into.now) c.requires.from c.requires.into in
     record { so_far = refl; count = omega (arith, from, into, same); weight = refl }
 
-pub copy_entries-requires : goal.copy_entries-requires
-copy_entries-requires c =
+pub copy_mixture_entries-requires : goal.copy_mixture_entries-requires
+copy_mixture_entries-requires c =
     let m = market_of c.args.case.now in
     let x = mixture_of c.args.from.now in
     let y = mixture_of c.args.into.now in
@@ -49,11 +49,12 @@ loop-number-preserved c =
     let y = mixture_of c.args.into.now in
     let k = c.loop-number.number in
     record {
-      so_far = one_copied entries_of k x.entries y.entries c.loop-number.into.thermal.items c.copy_entries.new.into
+      so_far = one_copied entries_of k x.entries y.entries c.loop-number.into.thermal.items
+          c.copy_mixture_entries.new.into
           (entries_of c.get.result.now) c.loop-number.invariant.so_far
           (same_units (market_of c.args.case.now) c.args.places x y c.requires.from c.requires.into)
           (map_item entries_of c.args.from.now.thermal.items k c.get.result.now c.get.ensures.item)
-          c.copy_entries.ensures;
+          c.copy_mixture_entries.ensures;
       count = length-set _ _ _ ∙ c.loop-number.invariant.count;
       weight = c.loop-number.invariant.weight;
     }

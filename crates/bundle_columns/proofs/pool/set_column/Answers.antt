@@ -21,16 +21,16 @@ get_mut-requires c =
     let lt = place_within m.thermal c.args.number c.requires.fit.unit c.requires.fit.is in
     omega (arith, count, lt)
 
-pub set_schedule-requires-clause-index : goal.set_schedule-requires-clause-index
-set_schedule-requires-clause-index c =
+pub write_schedule_of_entry-requires-clause-index : goal.write_schedule_of_entry-requires-clause-index
+write_schedule_of_entry-requires-clause-index c =
     let m = market_of c.args.case.now in
     let long = entry_count m.periods (places_in c.args.pool.now) c.requires.fit.unit.unit c.get_mut.result.now
     (kept c) in
     let lt = c.requires.index in
     omega (arith, long, lt)
 
-pub set_schedule-requires-clause-horizon : goal.set_schedule-requires-clause-horizon
-set_schedule-requires-clause-horizon c = λ d at.
+pub write_schedule_of_entry-requires-clause-horizon : goal.write_schedule_of_entry-requires-clause-horizon
+write_schedule_of_entry-requires-clause-horizon c = λ d at.
     over_at (market_of c.args.case.now).periods (places_in c.args.pool.now) c.requires.fit.unit.unit
     c.get_mut.result.now
     c.args.index d (kept c) at ∙ sym c.requires.fit.feasible.schedule.on
@@ -49,7 +49,8 @@ returns c =
     let unit = c.requires.fit.unit in
     let was = kept_of m places c.args.pool.now.columns.weight c.args.pool.now.columns.thermal.items c.args.number unit
     c.get_mut.result.now c.requires.pool.columns c.requires.fit.is c.get_mut.ensures.item in
-    let now = subst (λ (es : List WeighedSchedule). AreKept m.periods places unit.unit es) (sym c.set_schedule.ensures)
+    let now = subst (λ (es : List WeighedSchedule). AreKept m.periods places unit.unit es)
+    (sym c.write_schedule_of_entry.ensures)
     (kept_rescheduled m.periods places unit.unit (entries_of c.get_mut.result.now) c.args.index
     (schedule_of c.args.response.now) c.requires.fit.feasible was) in
     record {
@@ -57,7 +58,7 @@ returns c =
       most = c.requires.pool.most;
       columns = kept_set m places c.args.pool.now.columns.weight c.args.pool.now.columns.thermal.items
           c.args.number unit
-          c.set_schedule.new.entries c.requires.pool.columns c.requires.fit.is now;
+          c.write_schedule_of_entry.new.entries c.requires.pool.columns c.requires.fit.is now;
       periods = ap (λ (s : Shape). s.periods) c.set_column.ensures ∙ c.requires.pool.periods;
       thermal = ap (λ (s : Shape). s.thermal) c.set_column.ensures ∙ c.requires.pool.thermal;
       places_are = ap (λ (s : Shape). s.places) c.set_column.ensures ∙ c.requires.pool.places_are;

@@ -16,10 +16,11 @@ given c =
     let fits : FitsSigned w64 c.weight_at.result = search rules in
     let amount_fits : FitsSigned w64 c.args.amount = search rules in
     let is = rw (to_z-of_z w64 c.weight_at.result fits, to_z-of_z w64 c.args.amount amount_fits)
-    at c.less_by-given.ensures in
-    let less_fits : FitsSigned w64 c.less_by-given.result = search rules in
+    at c.difference_of_weights-given.ensures in
+    let less_fits : FitsSigned w64 c.difference_of_weights-given.result = search rules in
     c.set_weight.ensures ∙ ap (λ (w : ℤ). reweighed (entries_of c.args.entries.now) c.args.from w)
-    (to_z-of_z w64 c.less_by-given.result less_fits ∙ is ∙ ap (λ (w : ℤ). w -ℤ c.args.amount) c.weight_at.ensures)
+    (to_z-of_z w64 c.difference_of_weights-given.result less_fits ∙ is ∙ ap (λ (w : ℤ). w -ℤ c.args.amount)
+    c.weight_at.ensures)
 
 count : (c : After-set_weight) → length c.set_weight.new.entries.items ≡ length c.args.entries.now.items
 count c =
@@ -29,8 +30,8 @@ count c =
     (weight_at (entries_of c.args.entries.now) c.args.from -ℤ c.args.amount) in
     omega (arith, before, after, same)
 
-pub less_by-given-requires : goal.less_by-given-requires
-less_by-given-requires c =
+pub difference_of_weights-given-requires : goal.difference_of_weights-given-requires
+difference_of_weights-given-requires c =
     let within = giver_within (entries_of c.args.entries.now) c.args.from c.requires.shares in
     let fits : FitsSigned w64 c.weight_at.result = search rules in
     let is = to_z-of_z w64 c.weight_at.result fits ∙ c.weight_at.ensures in
@@ -50,8 +51,8 @@ weight_at-requires-2 c =
     let to = c.requires.to in
     omega (arith, same, to)
 
-pub more_by-taken-requires : goal.more_by-taken-requires
-more_by-taken-requires c =
+pub sum_of_two_weights-taken-requires : goal.sum_of_two_weights-taken-requires
+sum_of_two_weights-taken-requires c =
     let es = entries_of c.args.entries.now in
     let lt = less c.args.entries.now.items c.args.from c.requires.from in
     let within = taker_within es c.args.from c.args.to c.args.amount lt c.requires.shares c.requires.amount in
@@ -60,7 +61,7 @@ more_by-taken-requires c =
     let same = to_z-of_z w64 c.args.amount amount_fits in
     let is = to_z-of_z w64 c.weight_at-2.result fits ∙ c.weight_at-2.ensures ∙ ap (λ (l : List
     WeighedSchedule). weight_at l c.args.to)
-    (given (goal.at.more_by-taken-requires c).After-set_weight) in
+    (given (goal.at.sum_of_two_weights-taken-requires c).After-set_weight) in
     let giver = giver_within es c.args.from c.requires.shares in
     let a = c.requires.amount.at_least in
     let b = c.requires.amount.at_most in
@@ -86,12 +87,12 @@ taken c at =
     let fits : FitsSigned w64 c.weight_at-2.result = search rules in
     let amount_fits : FitsSigned w64 c.args.amount = search rules in
     let is = rw (to_z-of_z w64 c.weight_at-2.result fits, to_z-of_z w64 c.args.amount amount_fits)
-    at c.more_by-taken.ensures in
-    let more_fits : FitsSigned w64 c.more_by-taken.result = search rules in
+    at c.sum_of_two_weights-taken.ensures in
+    let more_fits : FitsSigned w64 c.sum_of_two_weights-taken.result = search rules in
     c.set_weight-2.ensures ∙
     ap (λ (w : ℤ). reweighed (entries_of c.set_weight.new.entries) c.args.to w)
-    (to_z-of_z w64 c.more_by-taken.result more_fits) ∙
-    ap (λ (l : List WeighedSchedule). reweighed l c.args.to c.more_by-taken.result) at ∙
+    (to_z-of_z w64 c.sum_of_two_weights-taken.result more_fits) ∙
+    ap (λ (l : List WeighedSchedule). reweighed l c.args.to c.sum_of_two_weights-taken.result) at ∙
     ap (λ (w : ℤ). reweighed (moved (entries_of c.args.entries.now) c.args.from c.args.amount) c.args.to w)
     (is ∙ ap (λ (w : ℤ). w +ℤ c.args.amount) (c.weight_at-2.ensures ∙
     ap (λ (l : List WeighedSchedule). weight_at l c.args.to) at))

@@ -15,8 +15,8 @@ loop-j-init c = record {
   plan_room = omega (arith, c.requires.room);
 }
 
-pub add_flat-requires-clause-small : goal.add_flat-requires-clause-small
-add_flat-requires-clause-small c =
+pub add_renewable_unit-requires-clause-small : goal.add_renewable_unit-requires-clause-small
+add_renewable_unit-requires-clause-small c =
     subst (IsSmall 100000000) (sym c.loop-j.invariant.planned)
     (grown_small _ c.args.random.now 0 c.loop-j.j c.requires.small (omega arith))
 

@@ -13,6 +13,6 @@ loop-index-preserved c =
           ∙ ap (λ (xs : List Point). xs ++ c.cost_point-in-loop-index.result ∷ []) c.loop-index.invariant.so_far
           ∙ ap (λ (p : Point). map (point_of d) (range_with_len 0 next) ++ p ∷ []) c.cost_point-in-loop-index.ensures
           ∙ sym (map-range_with_len_more (point_of d) 0 next next (omega arith));
-      last_cost = c.next_cost-cost.ensures;
+      last_cost = c.cost_at_next_curve_point-cost.ensures;
       room = omega (arith, room, spare);
     }

@@ -1,6 +1,6 @@
 use Rattle.convex_search.proofs.Common.{ℤ, sym, subst, ◌∙◌, market_of, prices_of, everywhere, IsNear, rules, FitsSigned}
 use Rattle.convex_search.proofs.Common.{to_z-of_z}
-use Rattle.convex_search.proofs.OneValue.{one_value}
+use Rattle.convex_search.proofs.JsonTextHasOneValue.{one_value}
 use Rattle.gap_proof.specs.MixtureSizes.{IsBound}
 use Rattle.std.specs.Int.{w128}
 use Rattle.convex_search.proofs.find.finish_search.Goals as goal

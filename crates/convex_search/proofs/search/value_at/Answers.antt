@@ -7,7 +7,8 @@ use Rattle.convex_search.proofs.search.value_at.Goals as goal
 
 pub earned_sum-requires-clause-count : goal.earned_sum-requires-clause-count
 earned_sum-requires-clause-count c =
-    few_earned c.units_are_numbered.ensures (market_of c.args.case.now) (prices_of c.args.prices.now) c.args.earned.now
+    few_earned c.unit_numbers_go_by_kind.ensures (market_of c.args.case.now) (prices_of c.args.prices.now)
+    c.args.earned.now
     c.args.case.now.valid c.requires.tops
 
 pub earned_sum-requires-clause-bound : goal.earned_sum-requires-clause-bound

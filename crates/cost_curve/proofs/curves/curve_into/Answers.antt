@@ -55,12 +55,12 @@ walk-preserved c =
     let later = lead.later in
     let before : Block = record { width = w; price = t -ℤ pos 1 } in
     let after : Block = record { width = ((point_at ps j).at -ℤ (point_at ps i).at) -ℤ w; price = t } in
-    let items = c.push_edge.ensures.items in
+    let items = c.push_blocks_between_points.ensures.items in
     let count = ap (λ (x : List Block). length x) items in
     let few = known.few in
     let one = length-extended c.walk.into.blocks.items before in
     let two = length-extended (extended c.walk.into.blocks.items before) after in
-    let room = c.push_edge.ensures.room in
+    let room = c.push_blocks_between_points.ensures.room in
     let had = known.room in
     record {
       within = lead.within;
@@ -80,7 +80,7 @@ pub returns-clause-curve : goal.returns-clause-curve
 returns-clause-curve c =
     let ps = c.args.points.now in
     let known = c.walk.invariant in
-    let last = subst (λ way. IsWayOn ps c.walk.from (length ps) way) c.in_default.is c.next_edge.ensures in
+    let last = subst (λ way. IsWayOn ps c.walk.from (length ps) way) c.in_default.is c.next_envelope_point.ensures in
     IsCostCurve-built c.envelope_is_greatest.ensures c.power_costs_are_within.ensures ps c.requires.points c.walk.into
     c.walk.from known.price known.within last known.starts known.built known.few
 
@@ -88,7 +88,7 @@ pub returns-clause-evaluates : goal.returns-clause-evaluates
 returns-clause-evaluates c =
     let ps = c.args.points.now in
     let known = c.walk.invariant in
-    let last = subst (λ way. IsWayOn ps c.walk.from (length ps) way) c.in_default.is c.next_edge.ensures in
+    let last = subst (λ way. IsWayOn ps c.walk.from (length ps) way) c.in_default.is c.next_envelope_point.ensures in
     CanEvaluate-curve c.envelope_is_greatest.ensures c.power_costs_are_within.ensures ps c.requires.points c.walk.into
     (IsCostCurve-built c.envelope_is_greatest.ensures c.power_costs_are_within.ensures ps c.requires.points
     c.walk.into c.walk.from known.price known.within last known.starts known.built known.few)

@@ -37,20 +37,20 @@ pub overflow_add-sum : goal.overflow_add-sum
 overflow_add-sum c =
     let few = c.args.case.now.valid.horizon.at_most in
     let test = c.loop-index-test.true in
-    let f : FitsSigned w128 c.most_at-sum.result = search rules in
+    let f : FitsSigned w128 c.greatest_bound_term_of_period-sum.result = search rules in
     let a = c.loop-index.invariant.limit.at_least in
     let b = c.loop-index.invariant.limit.at_most in
-    let u = c.most_at-sum.ensures.limit.at_least in
-    let v = c.most_at-sum.ensures.limit.at_most in
+    let u = c.greatest_bound_term_of_period-sum.ensures.limit.at_least in
+    let v = c.greatest_bound_term_of_period-sum.ensures.limit.at_most in
     let within : IsWithin 100000000000000000000000000000000000
-    (cast_signed w128 c.loop-index.sum-bits +ℤ c.most_at-sum.result) =
+    (cast_signed w128 c.loop-index.sum-bits +ℤ c.greatest_bound_term_of_period-sum.result) =
     record {
       at_least = omega (arith, ints, a, u, few, test);
       at_most =
           omega (arith, ints, b, v, few, test);
     } in
     let fits = fits_within w128 100000000000000000000000000000000000
-    (cast_signed w128 c.loop-index.sum-bits +ℤ c.most_at-sum.result) within (omega arith) in
+    (cast_signed w128 c.loop-index.sum-bits +ℤ c.greatest_bound_term_of_period-sum.result) within (omega arith) in
     simp to_z-of_z fits
 
 pub loop-index-preserved : goal.loop-index-preserved
@@ -63,28 +63,29 @@ loop-index-preserved c =
     let rq = c.ranges.radius in
     let few = c.args.case.now.valid.horizon.at_most in
     let test = c.loop-index-test.true in
-    let f : FitsSigned w128 c.most_at-sum.result = search rules in
+    let f : FitsSigned w128 c.greatest_bound_term_of_period-sum.result = search rules in
     let term : ℕ → ℤ = λ j. most_energy m x π q j +ℤ most_reserve m x π q j in
     let so_far : cast_signed w128 c.loop-index.sum-bits ≡ mixture_cost m x +ℤ sum_below k term =
     simp to_z-of_z at c.loop-index.invariant.is in
-    let value = simp to_z-of_z at c.most_at-sum.ensures.value in
+    let value = simp to_z-of_z at c.greatest_bound_term_of_period-sum.ensures.value in
     let more : sum_below (k + 1) term ≡ sum_below k term +ℤ term k = ap (λ (n : ℕ). sum_below n term) (add-one k) in
     let a = c.loop-index.invariant.limit.at_least in
     let b = c.loop-index.invariant.limit.at_most in
-    let u = c.most_at-sum.ensures.limit.at_least in
-    let v = c.most_at-sum.ensures.limit.at_most in
-    let sum : cast_signed w128 c.loop-index.sum-bits +ℤ c.most_at-sum.result ≡ mixture_cost m x +ℤ sum_below (k + 1)
+    let u = c.greatest_bound_term_of_period-sum.ensures.limit.at_least in
+    let v = c.greatest_bound_term_of_period-sum.ensures.limit.at_most in
+    let sum : cast_signed w128 c.loop-index.sum-bits +ℤ c.greatest_bound_term_of_period-sum.result ≡ mixture_cost m x
+    +ℤ sum_below (k + 1)
     term = omega (arith, ints, so_far, value, more) in
     let limit : IsWithin (7000000000000000000000000000000000 + 500000000000000000000000000000000 * (k + 1))
-    (cast_signed w128 c.loop-index.sum-bits +ℤ c.most_at-sum.result) =
+    (cast_signed w128 c.loop-index.sum-bits +ℤ c.greatest_bound_term_of_period-sum.result) =
     record { at_least = omega (arith, ints, a, u); at_most = omega (arith, ints, b, v) } in
     let l = limit.at_least in
     let h = limit.at_most in
     let within : IsWithin 100000000000000000000000000000000000
-    (cast_signed w128 c.loop-index.sum-bits +ℤ c.most_at-sum.result) =
+    (cast_signed w128 c.loop-index.sum-bits +ℤ c.greatest_bound_term_of_period-sum.result) =
     record { at_least = omega (arith, ints, l, few, test); at_most = omega (arith, ints, h, few, test) } in
     let fits = fits_within w128 100000000000000000000000000000000000
-    (cast_signed w128 c.loop-index.sum-bits +ℤ c.most_at-sum.result) within (omega arith) in
+    (cast_signed w128 c.loop-index.sum-bits +ℤ c.greatest_bound_term_of_period-sum.result) within (omega arith) in
     record { is = simp to_z-of_z sum; limit = simp to_z-of_z limit }
 
 pub returns-clause-limit : goal.returns-clause-limit

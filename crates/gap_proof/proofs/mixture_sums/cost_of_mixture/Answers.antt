@@ -25,8 +25,8 @@ get-requires-in-loop-index c =
     let end = c.len-index-end.ensures in
     omega (arith, same, a, b, test, end)
 
-pub cost_of_entries-sum-requires-clause-weights : goal.cost_of_entries-sum-requires-clause-weights
-cost_of_entries-sum-requires-clause-weights c =
+pub weighted_cost_of_entries-sum-requires-clause-weights : goal.weighted_cost_of_entries-sum-requires-clause-weights
+weighted_cost_of_entries-sum-requires-clause-weights c =
     let m = market_of c.args.case.now in
     let x = mixture_of c.args.mixture.now in
     let k = c.loop-index.index in
@@ -40,8 +40,8 @@ cost_of_entries-sum-requires-clause-weights c =
     subst (λ (l : List Entry). AreUnitWeights (map entry_of l)) (sym c.as_slice.ensures)
     (weights_of m.periods x.whole es c.requires.shape.whole.at_most read)
 
-pub cost_of_entries-sum-requires-clause-feasible : goal.cost_of_entries-sum-requires-clause-feasible
-cost_of_entries-sum-requires-clause-feasible c =
+pub weighted_cost_of_entries-sum-requires-clause-feasible : goal.weighted_cost_of_entries-sum-requires-clause-feasible
+weighted_cost_of_entries-sum-requires-clause-feasible c =
     let m = market_of c.args.case.now in
     let x = mixture_of c.args.mixture.now in
     let k = c.loop-index.index in
@@ -65,20 +65,20 @@ overflow_add-sum c =
     let mapped = length-map c.args.case.now.thermal.items named_thermal_of in
     let test = c.loop-index-test.true in
     let end = c.len-index-end.ensures in
-    let f : FitsSigned w128 c.cost_of_entries-sum.result = search rules in
+    let f : FitsSigned w128 c.weighted_cost_of_entries-sum.result = search rules in
     let a = c.loop-index.invariant.limit.at_least in
     let b = c.loop-index.invariant.limit.at_most in
-    let x = c.cost_of_entries-sum.ensures.limit.at_least in
-    let y = c.cost_of_entries-sum.ensures.limit.at_most in
+    let x = c.weighted_cost_of_entries-sum.ensures.limit.at_least in
+    let y = c.weighted_cost_of_entries-sum.ensures.limit.at_most in
     let within : IsWithin 7000000000000000000000000000000000
-    (cast_signed w128 c.loop-index.sum-bits +ℤ c.cost_of_entries-sum.result) =
+    (cast_signed w128 c.loop-index.sum-bits +ℤ c.weighted_cost_of_entries-sum.result) =
     record {
       at_least = omega (arith, ints, a, x, few, mapped, test, end);
       at_most =
           omega (arith, ints, b, y, few, mapped, test, end);
     } in
     let fits = fits_within w128 7000000000000000000000000000000000
-    (cast_signed w128 c.loop-index.sum-bits +ℤ c.cost_of_entries-sum.result) within (omega arith) in
+    (cast_signed w128 c.loop-index.sum-bits +ℤ c.weighted_cost_of_entries-sum.result) within (omega arith) in
     simp to_z-of_z fits
 
 pub loop-index-preserved : goal.loop-index-preserved
@@ -95,33 +95,33 @@ loop-index-preserved c =
     let mapped = length-map c.args.case.now.thermal.items named_thermal_of in
     let test = c.loop-index-test.true in
     let end = c.len-index-end.ensures in
-    let f : FitsSigned w128 c.cost_of_entries-sum.result = search rules in
+    let f : FitsSigned w128 c.weighted_cost_of_entries-sum.result = search rules in
     let more = zip_more (λ (q : NamedThermalUnit) (l : List WeighedSchedule). weighed (cost_of (Thermal q.unit)) l)
     m.thermal x.entries k n es at_n at_es in
     let so_far : cast_signed w128 c.loop-index.sum-bits ≡ total
     (zip_with (λ (q : NamedThermalUnit) (l : List WeighedSchedule). weighed (cost_of (Thermal q.unit)) l)
     (take k m.thermal) x.entries) = c.loop-index.invariant.is in
-    let value = c.cost_of_entries-sum.ensures.value in
+    let value = c.weighted_cost_of_entries-sum.ensures.value in
     let same = ap (λ (l : List Entry). weighed (cost_of (Thermal n.unit)) (map entry_of l)) c.as_slice.ensures in
     let a = c.loop-index.invariant.limit.at_least in
     let b = c.loop-index.invariant.limit.at_most in
-    let u = c.cost_of_entries-sum.ensures.limit.at_least in
-    let v = c.cost_of_entries-sum.ensures.limit.at_most in
-    let sum : cast_signed w128 c.loop-index.sum-bits +ℤ c.cost_of_entries-sum.result ≡ total
+    let u = c.weighted_cost_of_entries-sum.ensures.limit.at_least in
+    let v = c.weighted_cost_of_entries-sum.ensures.limit.at_most in
+    let sum : cast_signed w128 c.loop-index.sum-bits +ℤ c.weighted_cost_of_entries-sum.result ≡ total
     (zip_with (λ (q : NamedThermalUnit) (l : List WeighedSchedule). weighed (cost_of (Thermal q.unit)) l)
     (take (k + 1) m.thermal) x.entries) = omega (arith, ints, more, so_far, value, same) in
     let limit : IsWithin (1700000000000000000000000000000 * (k + 1))
-    (cast_signed w128 c.loop-index.sum-bits +ℤ c.cost_of_entries-sum.result) =
+    (cast_signed w128 c.loop-index.sum-bits +ℤ c.weighted_cost_of_entries-sum.result) =
     record { at_least = omega (arith, ints, a, u); at_most = omega (arith, ints, b, v) } in
     let l = limit.at_least in
     let h = limit.at_most in
     let within : IsWithin 7000000000000000000000000000000000
-    (cast_signed w128 c.loop-index.sum-bits +ℤ c.cost_of_entries-sum.result) =
+    (cast_signed w128 c.loop-index.sum-bits +ℤ c.weighted_cost_of_entries-sum.result) =
     record {
       at_least = omega (arith, ints, l, few, mapped, test, end);
       at_most =
           omega (arith, ints, h, few, mapped, test, end);
     } in
     let fits = fits_within w128 7000000000000000000000000000000000
-    (cast_signed w128 c.loop-index.sum-bits +ℤ c.cost_of_entries-sum.result) within (omega arith) in
+    (cast_signed w128 c.loop-index.sum-bits +ℤ c.weighted_cost_of_entries-sum.result) within (omega arith) in
     record { is = simp to_z-of_z sum; limit = simp to_z-of_z limit }

@@ -4,34 +4,36 @@ use Rattle.gap_proof.proofs.Common.{IsRowWithin}
 use Rattle.gap_proof.proofs.Lemmas.{one_bound, item_of, row_prices, height_size, slope_sizes, bound_is}
 use Rattle.gap_proof.proofs.ranges.bound_by_one_row.Goals as goal
 
-pub sums_of-sums-requires-clause-row : goal.sums_of-sums-requires-clause-row
-sums_of-sums-requires-clause-row c =
+pub plane_sums_of_one_row-sums-requires-clause-row : goal.plane_sums_of_one_row-sums-requires-clause-row
+plane_sums_of_one_row-sums-requires-clause-row c =
     let mapped = length-map c.args.rows.now proposal_of in
     let first = c.requires.from_one in
     let last = c.requires.to_last in
     item_of (IsRowWithin (market_of c.args.case.now)) (map proposal_of c.args.rows.now) (c.args.number - 1)
     (proposal_of c.row_at-row.result.now) c.requires.rows (omega (arith, mapped, first, last)) c.row_at-row.ensures
 
-pub greatest_mean_height-bound-requires : goal.greatest_mean_height-bound-requires
-greatest_mean_height-bound-requires c =
+pub greatest_mean_plane_height-bound-requires : goal.greatest_mean_plane_height-bound-requires
+greatest_mean_plane_height-bound-requires c =
     let m = market_of c.args.case.now in
     let r = proposal_of c.row_at-row.result.now in
     let mapped = length-map c.args.rows.now proposal_of in
     let first = c.requires.from_one in
     let last = c.requires.to_last in
     let q = c.ranges.radius in
-    let sums = c.sums_of-sums.ensures.sums in
+    let sums = c.plane_sums_of_one_row-sums.ensures.sums in
     let is = sums.weights in
     record {
       horizon = (item_of (IsRowWithin m) (map proposal_of c.args.rows.now) (c.args.number - 1) r c.requires.rows
           (omega (arith, mapped, first, last)) c.row_at-row.ensures).row.horizon;
       radius = simp to_z-of_z c.requires.radius;
-      heights = height_size m (pos 1 ∷ []) (r ∷ []) c.sums_of-sums.result.height c.sums_of-sums.result.weight
-          c.sums_of-sums.new.slopes.items sums (omega arith);
+      heights = height_size m (pos 1 ∷ []) (r ∷ []) c.plane_sums_of_one_row-sums.result.height
+          c.plane_sums_of_one_row-sums.result.weight
+          c.plane_sums_of_one_row-sums.new.slopes.items sums (omega arith);
       weights = record { at_least = omega (arith, ints, is); at_most = omega (arith, ints, is) };
       length = sums.same_length;
-      slopes = slope_sizes m (pos 1 ∷ []) (r ∷ []) c.sums_of-sums.result.height c.sums_of-sums.result.weight
-          c.sums_of-sums.new.slopes.items sums (omega arith);
+      slopes = slope_sizes m (pos 1 ∷ []) (r ∷ []) c.plane_sums_of_one_row-sums.result.height
+          c.plane_sums_of_one_row-sums.result.weight
+          c.plane_sums_of_one_row-sums.new.slopes.items sums (omega arith);
     }
 
 pub returns : goal.returns
@@ -40,11 +42,12 @@ returns c =
     let rows = map proposal_of c.args.rows.now in
     let r = proposal_of c.row_at-row.result.now in
     let q = c.ranges.radius in
-    let f : FitsSigned w128 c.greatest_mean_height-bound.result = search rules in
-    let sums = c.sums_of-sums.ensures.sums in
-    let e = simp to_z-of_z at c.greatest_mean_height-bound.ensures.value in
-    let is = bound_is m (pos 1 ∷ []) (r ∷ []) c.sums_of-sums.result.height c.sums_of-sums.result.weight
-    c.sums_of-sums.new.slopes.items sums r.prices c.args.radius in
+    let f : FitsSigned w128 c.greatest_mean_plane_height-bound.result = search rules in
+    let sums = c.plane_sums_of_one_row-sums.ensures.sums in
+    let e = simp to_z-of_z at c.greatest_mean_plane_height-bound.ensures.value in
+    let is = bound_is m (pos 1 ∷ []) (r ∷ []) c.plane_sums_of_one_row-sums.result.height
+    c.plane_sums_of_one_row-sums.result.weight
+    c.plane_sums_of_one_row-sums.new.slopes.items sums r.prices c.args.radius in
     let one = one_bound m rows r.prices c.args.radius c.args.number r c.requires.from_one c.row_at-row.ensures in
     let prices = row_prices rows c.args.number r c.row_at-row.ensures in
     let bound = e ∙ is ∙ one ∙
@@ -55,7 +58,7 @@ returns c =
       first = refl;
       last = refl;
       bound = simp to_z-of_z bound;
-      limits = simp to_z-of_z c.greatest_mean_height-bound.ensures.limits;
+      limits = simp to_z-of_z c.greatest_mean_plane_height-bound.ensures.limits;
       work = sums.same_length ∙ sym wide;
-      spare = c.sums_of-sums.ensures.spare;
+      spare = c.plane_sums_of_one_row-sums.ensures.spare;
     }

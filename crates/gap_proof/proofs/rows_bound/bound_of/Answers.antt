@@ -23,8 +23,8 @@ loop-index-init c =
       spare = refl;
     }
 
-pub add_row-sums-requires : goal.add_row-sums-requires
-add_row-sums-requires c =
+pub add_weighted_plane_of_row-sums-requires : goal.add_weighted_plane_of_row-sums-requires
+add_weighted_plane_of_row-sums-requires c =
     let m = market_of c.args.case.now in
     let ws = c.args.weights.now.items in
     let rows = map proposal_of c.args.rows.now in
@@ -70,16 +70,17 @@ loop-index-preserved c =
     (omega (arith, low, high, mapped, count)) c.get.ensures.item in
     let row = item_of (IsRowWithin m) rows (i - 1) (proposal_of c.row_at.result.now) c.requires.rows
     (omega (arith, low, high, mapped)) c.row_at.ensures in
-    let height = simp to_z-of_z at c.add_row-sums.ensures.height in
-    let step = simp to_z-of_z at c.add_row-sums.ensures.step in
-    let weight = simp to_z-of_z at c.add_row-sums.ensures.weight in
-    let slopes = simp to_z-of_z at c.add_row-sums.ensures.slopes in
+    let height = simp to_z-of_z at c.add_weighted_plane_of_row-sums.ensures.height in
+    let step = simp to_z-of_z at c.add_weighted_plane_of_row-sums.ensures.step in
+    let weight = simp to_z-of_z at c.add_weighted_plane_of_row-sums.ensures.weight in
+    let slopes = simp to_z-of_z at c.add_weighted_plane_of_row-sums.ensures.slopes in
     let next = sums_more m (drop i ws) (drop i rows) c.loop-index.sums.height c.loop-index.sums.weight
     c.loop-index.work.items c.loop-index.invariant.sums
-    c.get.result.now (proposal_of c.row_at.result.now) c.add_row-sums.result.height c.add_row-sums.result.weight
-    c.add_row-sums.new.slopes.items
-    c.args.case.now.valid row.row size height step weight c.add_row-sums.ensures.length slopes in
-    let spare = c.add_row-sums.ensures.spare in
+    c.get.result.now (proposal_of c.row_at.result.now) c.add_weighted_plane_of_row-sums.result.height
+    c.add_weighted_plane_of_row-sums.result.weight
+    c.add_weighted_plane_of_row-sums.new.slopes.items
+    c.args.case.now.valid row.row size height step weight c.add_weighted_plane_of_row-sums.ensures.length slopes in
+    let spare = c.add_weighted_plane_of_row-sums.ensures.spare in
     let held = c.loop-index.invariant.spare in
     record {
       sums = rw (
@@ -96,8 +97,8 @@ all_summed m ws rows i height weight slopes h e =
     let none : i ≡ 0 = omega (arith, e) in
     subst (λ (n : ℕ). AreSums m (drop n ws) (drop n rows) height weight slopes) none h
 
-pub greatest_mean_height-requires : goal.greatest_mean_height-requires
-greatest_mean_height-requires c =
+pub greatest_mean_plane_height-requires : goal.greatest_mean_plane_height-requires
+greatest_mean_plane_height-requires c =
     let m = market_of c.args.case.now in
     let ws = c.args.weights.now.items in
     let rows = map proposal_of c.args.rows.now in
@@ -132,11 +133,11 @@ returns c =
     let ws = c.args.weights.now.items in
     let rows = map proposal_of c.args.rows.now in
     let q = c.ranges.radius in
-    let f : FitsSigned w128 c.greatest_mean_height.result = search rules in
+    let f : FitsSigned w128 c.greatest_mean_plane_height.result = search rules in
     let sums = all_summed m ws rows c.loop-index.index c.loop-index.sums.height c.loop-index.sums.weight
     c.loop-index.work.items c.loop-index.invariant.sums c.loop-index-test.false in
     let prices = row_prices rows c.args.centre (proposal_of c.row_at-middle.result.now) c.row_at-middle.ensures in
-    let e = simp to_z-of_z at c.greatest_mean_height.ensures.value in
+    let e = simp to_z-of_z at c.greatest_mean_plane_height.ensures.value in
     let is = bound_is m ws rows c.loop-index.sums.height c.loop-index.sums.weight c.loop-index.work.items sums
     (proposal_of c.row_at-middle.result.now).prices c.args.radius in
     let bound = e ∙ is ∙ ap (λ (π : PriceLists). certified_bound m rows ws π c.args.radius) prices in

@@ -8,4 +8,5 @@ returns-in-Ok-clause-end g c =
     let out = c.write_answer.new.out in
     rw c.in-Ok.is (end_of_text (Gains g.S.Sink.held g.S.Sink.faults c.args.out.now out)
     (FallsShort g.S.Sink.held g.S.Sink.faults g.S.Sink.last c.args.out.now out) c.in-Ok.answer c.write_answer.result
-    c.of_text.result e.0 e.1 e.2.ok e.2.err c.of_text.ensures.whole c.of_text.ensures.cut)
+    c.end_of_written_text.result e.0 e.1 e.2.ok e.2.err c.end_of_written_text.ensures.whole
+    c.end_of_written_text.ensures.cut)

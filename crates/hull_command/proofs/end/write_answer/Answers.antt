@@ -22,8 +22,8 @@ pub returns-in-Price : goal.returns-in-Price
 returns-in-Price g c =
     let done = c.in-Price.done in
     written_as c.args.answer.now (Price done) c.in-Price.is (report_text (report_of done.closed done.settlement))
-    (run_text c.record_report_is_right.ensures report_text done (subst IsAnswered c.in-Price.is c.requires))
-    c.write_run_report.ensures.text
+    (run_text c.report_of_finished_board_is_right.ensures report_text done (subst IsAnswered c.in-Price.is c.requires))
+    c.write_price_report.ensures.text
 
 pub returns-in-Check : goal.returns-in-Check
 returns-in-Check g c =
@@ -54,14 +54,14 @@ returns-in-Certify g c =
 pub returns-in-Convex : goal.returns-in-Convex
 returns-in-Convex g c =
     written_as c.args.answer.now (Convex c.in-Convex.found) c.in-Convex.is (found_text c.in-Convex.found) refl
-    c.write_search_text.ensures
+    c.write_convex_search_text.ensures
 
 pub returns-in-Try : goal.returns-in-Try
 returns-in-Try g c =
     let done = c.in-Try.done in
     written_as c.args.answer.now (Try c.in-Try.number done) c.in-Try.is
     (try_text c.in-Try.number (report_of done.closed done.settlement))
-    (run_text c.record_report_is_right.ensures (try_text c.in-Try.number) done
+    (run_text c.report_of_finished_board_is_right.ensures (try_text c.in-Try.number) done
     (subst IsAnswered c.in-Try.is c.requires))
     c.write_try.ensures
 
@@ -71,7 +71,7 @@ returns-in-Bound g c =
     let text : ℤ → List ℕ = λ z. bound_text (length (own_rows b.done.closed)) (chosen_of b.done.closed)
     (value_of b.done.closed) (unsigned_abs z) b.certified.first b.certified.last b.certified.bound in
     written_as c.args.answer.now (Bound b) c.in-Bound.is (written_bound b)
-    (bound_written c.record_report_is_right.ensures b (subst IsAnswered c.in-Bound.is c.requires))
+    (bound_written c.report_of_finished_board_is_right.ensures b (subst IsAnswered c.in-Bound.is c.requires))
     (at_number text _ _ (to_z-of_z w64 b.radius (search rules)) c.write_bound.ensures)
 
 pub returns-in-Fixed : goal.returns-in-Fixed

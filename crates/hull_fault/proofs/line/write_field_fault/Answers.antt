@@ -10,5 +10,5 @@ returns g c =
     rw (← c.number-code.ensures, ← c.key.ensures, ← c.as_bytes-key.ensures.value) (writes_same
     (unit_joined (codes "case " ∷ numeral c.number-code.result ∷ codes " field " ∷ c.as_bytes-key.result.now ∷ [])
     (codes " item " ∷ numeral f.item ∷ []) f.kind f.unit _
-    c.kind_text-kind.ensures)
-    c.write_form.ensures)
+    c.unit_kind_text-kind.ensures)
+    c.write_form_filled_with_parts.ensures)

@@ -9,12 +9,13 @@ pub returns-in_err-input-clause-answers : goal.returns-in_err-input-clause-answe
 returns-in_err-input-clause-answers g c =
     let words = c.args.words.now in
     let h = c.in_err-input.ensures.answers in
-    fault_handed_on g.F.Shelf.told g.F.Shelf.faults g.F.Shelf.last c.args.shelf.now c.read_input.new.shelf
+    fault_handed_on g.F.Shelf.told g.F.Shelf.faults g.F.Shelf.last c.args.shelf.now c.read_case_and_schedule.new.shelf
     (case_and_schedule words.case_name.items words.schedule_name.items)
     (λ (reads : Reads) (r : Result SearchInput TopFault).
     IsAnswer (Then (IsInput reads) (IsWithinRounds words.rounds)) planned_search r)
     c.from_residual.result c.in_err-input.field-0.0 c.from_residual.ensures.1 h.0
-    (are_named g.F.Shelf.told g.F.Shelf.faults g.F.Shelf.last c.args.shelf.now c.read_input.new.shelf _ _ _ _
+    (are_named g.F.Shelf.told g.F.Shelf.faults g.F.Shelf.last c.args.shelf.now c.read_case_and_schedule.new.shelf _ _ _
+    _
     c.as_str-case_name.ensures c.as_str-schedule_name.ensures h.0 h.1)
     (refused_then (IsInput h.0) (IsWithinRounds words.rounds) _ h.2)
 
@@ -22,8 +23,9 @@ pub returns-clause-answers : goal.returns-clause-answers
 returns-clause-answers g c =
     let h = c.in_ok-input.ensures.answers in (
       h.0,
-      are_named g.F.Shelf.told g.F.Shelf.faults g.F.Shelf.last c.args.shelf.now c.read_input.new.shelf _ _ _ _
+      are_named g.F.Shelf.told g.F.Shelf.faults g.F.Shelf.last c.args.shelf.now c.read_case_and_schedule.new.shelf _ _
+          _ _
           c.as_str-case_name.ensures c.as_str-schedule_name.ensures h.0 h.1,
       answer_then (IsInput h.0) (IsWithinRounds c.args.words.now.rounds) (planned_of c.in_ok-input.input) planned_search
-          c.within_rounds.result h.2 c.within_rounds.ensures.answers,
+          c.search_input_within_work_limit.result h.2 c.search_input_within_work_limit.ensures.answers,
     )

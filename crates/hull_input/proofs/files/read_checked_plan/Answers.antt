@@ -19,6 +19,6 @@ returns-clause-answers g c =
       h.0,
       h.1,
       answer_then (IsPlanFile (market_of c.args.case) h.0) (IsChecked (market_of c.args.case))
-          (schedules_of c.in_ok-plan.plan) planned_of c.checked_input.result h.2
-          c.checked_input.ensures.answers,
+          (schedules_of c.in_ok-plan.plan) planned_of c.checked_case_and_schedule.result h.2
+          c.checked_case_and_schedule.ensures.answers,
     )

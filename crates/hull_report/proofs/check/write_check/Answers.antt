@@ -14,4 +14,4 @@ returns g c =
       ← c.len-thermal.ensures,
       ← c.len-flat.ensures,
       ← c.len-bids.ensures,
-    ) (rw (to_z-of_z w128 c.args.cost (search rules)) at c.write_form.ensures)
+    ) (rw (to_z-of_z w128 c.args.cost (search rules)) at c.write_form_filled_with_parts.ensures)

@@ -26,7 +26,8 @@ returns-in_err-write_unit_mixture g c =
     let es = c.as_slice-entries.result.now in
     let here = mixture_at case x c.loop-index.index c.get.result.now c.get-in-loop-index.result.now name es
     c.get.ensures.item c.get-in-loop-index.ensures.item c.as_str-name.ensures c.as_slice-entries.ensures in
-    exit_at_item c.texts_add_up.ensures mixture_text (mixture_lines (market_of case) (mixture_of x)) c.loop-index.index
+    exit_at_item c.texts_written_in_turn_add_up.ensures mixture_text (mixture_lines (market_of case) (mixture_of x))
+    c.loop-index.index
     (mixture_line name (map entry_of es)) _ c.from_residual.ensures.0 here.inside here.is
     c.in_err-write_unit_mixture.ensures.err c.loop-index.invariant
 
@@ -38,7 +39,8 @@ loop-index-preserved g c =
     let es = c.as_slice-entries.result.now in
     let here = mixture_at case x c.loop-index.index c.get.result.now c.get-in-loop-index.result.now name es
     c.get.ensures.item c.get-in-loop-index.ensures.item c.as_str-name.ensures c.as_slice-entries.ensures in
-    gains_at_item c.texts_add_up.ensures mixture_text (mixture_lines (market_of case) (mixture_of x)) c.loop-index.index
+    gains_at_item c.texts_written_in_turn_add_up.ensures mixture_text (mixture_lines (market_of case) (mixture_of x))
+    c.loop-index.index
     (mixture_line name (map entry_of es)) here.inside here.is c.in_ok-write_unit_mixture.ensures.ok
     c.loop-index.invariant
 

@@ -7,7 +7,8 @@ returns-in_err-write_mixture_entry g c =
     let es = c.args.entries.now in
     let e = c.entry-item.result in
     let here = entry_at es c.loop-entry.entry-index e (omega arith) c.entry-item.is in
-    exit_at_item c.texts_add_up.ensures share_text (share_lines es) c.loop-entry.entry-index (share_line (entry_of e)) _
+    exit_at_item c.texts_written_in_turn_add_up.ensures share_text (share_lines es) c.loop-entry.entry-index
+    (share_line (entry_of e)) _
     c.from_residual.ensures.0 here.inside here.is
     (rw (to_z-of_z w64 e.weight (search rules)) at c.in_err-write_mixture_entry.ensures.err) c.loop-entry.invariant
 
@@ -16,7 +17,8 @@ loop-entry-preserved g c =
     let es = c.args.entries.now in
     let e = c.entry-item.result in
     let here = entry_at es c.loop-entry.entry-index e (omega arith) c.entry-item.is in
-    gains_at_item c.texts_add_up.ensures share_text (share_lines es) c.loop-entry.entry-index (share_line (entry_of e))
+    gains_at_item c.texts_written_in_turn_add_up.ensures share_text (share_lines es) c.loop-entry.entry-index
+    (share_line (entry_of e))
     here.inside here.is (rw (to_z-of_z w64 e.weight (search rules)) at c.in_ok-write_mixture_entry.ensures.ok)
     c.loop-entry.invariant
 

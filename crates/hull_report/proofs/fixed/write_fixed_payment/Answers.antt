@@ -10,4 +10,4 @@ returns g c =
       to_z-of_z w64 c.args.paid.fixed (search rules),
       to_z-of_z w128 c.args.paid.hull (search rules),
       to_z-of_z w128 c.args.paid.fixed (search rules),
-    ) at c.write_form.ensures)
+    ) at c.write_form_filled_with_parts.ensures)

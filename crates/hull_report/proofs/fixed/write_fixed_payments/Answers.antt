@@ -9,14 +9,15 @@ text u = paid_text (paid_start u)
 
 pub returns-in_err-write_fixed_payment : goal.returns-in_err-write_fixed_payment
 returns-in_err-write_fixed_payment g c =
-    line_cut c.texts_add_up.ensures (all_texts text (paid_line (told_of c.args.hull.now) (told_of c.args.fixed.now))
+    line_cut c.texts_written_in_turn_add_up.ensures
+    (all_texts text (paid_line (told_of c.args.hull.now) (told_of c.args.fixed.now))
     (market_of c.args.case.now))
     c.loop-number.number _
     (text_at text (paid_line (told_of c.args.hull.now) (told_of c.args.fixed.now)) (market_of c.args.case.now)
     (market_of c.args.case.now) refl c.loop-number.number
     (unit_of c.unit_at-named.result.unit) c.unit_at-named.result.name.now _ c.unit_at-named.ensures.unit
     c.unit_at-named.ensures.name
-    (λ i. paid_text (c.start_of_unit_line.ensures i) (c.payment_in_both_runs-paid.ensures
+    (λ i. paid_text (c.fixed_line_prefix_of_unit.ensures i) (c.payments_for_fixed_report-paid.ensures
     c.unit_at-named.result.name.now i)))
     _ (told_by_kind text (paid_line (told_of c.args.hull.now) (told_of c.args.fixed.now)) (market_of c.args.case.now)
     (paid_text (codes "unit thermal "))
@@ -25,14 +26,14 @@ returns-in_err-write_fixed_payment g c =
 
 pub loop-number-preserved : goal.loop-number-preserved
 loop-number-preserved g c =
-    line_gained c.texts_add_up.ensures (all_texts text
+    line_gained c.texts_written_in_turn_add_up.ensures (all_texts text
     (paid_line (told_of c.args.hull.now) (told_of c.args.fixed.now)) (market_of c.args.case.now))
     c.loop-number.number _
     (text_at text (paid_line (told_of c.args.hull.now) (told_of c.args.fixed.now)) (market_of c.args.case.now)
     (market_of c.args.case.now) refl c.loop-number.number
     (unit_of c.unit_at-named.result.unit) c.unit_at-named.result.name.now _ c.unit_at-named.ensures.unit
     c.unit_at-named.ensures.name
-    (λ i. paid_text (c.start_of_unit_line.ensures i) (c.payment_in_both_runs-paid.ensures
+    (λ i. paid_text (c.fixed_line_prefix_of_unit.ensures i) (c.payments_for_fixed_report-paid.ensures
     c.unit_at-named.result.name.now i)))
     c.in_ok-write_fixed_payment.ensures.ok c.loop-number.invariant
 

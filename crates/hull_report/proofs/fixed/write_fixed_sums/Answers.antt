@@ -9,4 +9,4 @@ returns g c = rw (
   to_z-of_z w128 c.args.hull.now.settlement.surplus (search rules),
   to_z-of_z w128 c.args.fixed.now.settlement.surplus (search rules),
   to_z-of_z w128 c.args.cost (search rules),
-) at c.write_form.ensures
+) at c.write_form_filled_with_parts.ensures

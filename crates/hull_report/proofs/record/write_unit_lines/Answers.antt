@@ -5,29 +5,29 @@ use Rattle.hull_report.proofs.record.write_unit_lines.Goals as goal
 
 pub returns-in_err-write_unit-clause-text : goal.returns-in_err-write_unit-clause-text
 returns-in_err-write_unit-clause-text g c =
-    line_cut c.texts_add_up.ensures
+    line_cut c.texts_written_in_turn_add_up.ensures
     (all_texts unit_text (line_of c.args.closed.now c.args.settlement.now c.args.proposal)
     c.args.closed.now.setup.market)
     c.loop-number.number _
     (line_stands unit_text (line_of c.args.closed.now c.args.settlement.now c.args.proposal) _
     c.args.closed.now.setup.market c.case-case.ensures c.loop-number.number
     (unit_of c.unit_at.result.unit) c.unit_at.result.name.now _ c.unit_at.ensures.unit c.unit_at.ensures.name
-    (c.take_unit_line-owed.ensures.line c.unit_at.result.name.now))
+    (c.fetch_unit_response_and_payment-owed.ensures.line c.unit_at.result.name.now))
     _ (units_told (line_of c.args.closed.now c.args.settlement.now c.args.proposal) c.args.closed.now.setup.market)
     _ c.from_residual.ensures.0 c.in_err-write_unit.ensures.err c.loop-number.invariant.gained
 
 pub loop-number-preserved : goal.loop-number-preserved
 loop-number-preserved g c = record {
-  gained = line_gained c.texts_add_up.ensures
+  gained = line_gained c.texts_written_in_turn_add_up.ensures
       (all_texts unit_text (line_of c.args.closed.now c.args.settlement.now c.args.proposal)
       c.args.closed.now.setup.market)
       c.loop-number.number _
       (line_stands unit_text (line_of c.args.closed.now c.args.settlement.now c.args.proposal) _
       c.args.closed.now.setup.market c.case-case.ensures c.loop-number.number
       (unit_of c.unit_at.result.unit) c.unit_at.result.name.now _ c.unit_at.ensures.unit c.unit_at.ensures.name
-      (c.take_unit_line-owed.ensures.line c.unit_at.result.name.now))
+      (c.fetch_unit_response_and_payment-owed.ensures.line c.unit_at.result.name.now))
       c.in_ok-write_unit.ensures.ok c.loop-number.invariant.gained;
-  horizon = c.take_unit_line-owed.ensures.horizon;
+  horizon = c.fetch_unit_response_and_payment-owed.ensures.horizon;
 }
 
 pub returns-clause-text : goal.returns-clause-text

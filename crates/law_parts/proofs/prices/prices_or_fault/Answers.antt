@@ -4,5 +4,5 @@ use Rattle.uc_prices.specs.Tables.{prices_in}
 use Rattle.law_parts.proofs.prices.prices_or_fault.Goals as goal
 
 pub returns : goal.returns
-returns c = λ periods bytes. let found = c.one_file.ensures.some bytes in
+returns c = λ periods bytes. let found = c.file_is_one_json_value_or_one_fault.ensures.some bytes in
     (reading_of (prices_in periods) found.0, (found.0, found.1, refl))

@@ -44,7 +44,7 @@ sum c = let r = raised c in added_at (λ x. curve_value c.args.curve.now (x +ℤ
 pub invariant_of-self-clause-convex : goal.invariant_of-self-clause-convex
 invariant_of-self-clause-convex c =
     let after = (goal.at.invariant_of-self-clause-convex c).After-add_term in
-    rw (raised after).same (c.effects_keep_convexity.ensures.curve c.args.curve.now c.args.shift _ _
+    rw (raised after).same (c.operations_keep_convexity.ensures.curve c.args.curve.now c.args.shift _ _
     c.requires.limited.blocks (sum after) c.args.self.now.convex)
 
 pub invariant_of-self-clause-within : goal.invariant_of-self-clause-within
@@ -52,7 +52,7 @@ invariant_of-self-clause-within c =
     let after = (goal.at.invariant_of-self-clause-within c).After-add_term in
     let old = within_limits c.args.self.now.lo c.args.self.now.values.items c.args.self.now.within in
     rw (raised after).same (AreWithin-from_limits c.args.self.now.lo c.add_term.new.values
-    (c.effects_keep_limits.ensures.curve (curve_value c.args.curve.now) c.args.shift _ _ (sum after) c.requires.fits
+    (c.operations_keep_limits.ensures.curve (curve_value c.args.curve.now) c.args.shift _ _ (sum after) c.requires.fits
     old))
 
 pub returns-clause-ok : goal.returns-clause-ok

@@ -43,14 +43,15 @@ sum c = let r = raised c in IsSum-from_index (λ x. c.args.slope *ℤ x) c.args.
 pub invariant_of-self-clause-convex : goal.invariant_of-self-clause-convex
 invariant_of-self-clause-convex c =
     let after = (goal.at.invariant_of-self-clause-convex c).After-add_term in
-    rw (raised after).same (c.effects_keep_convexity.ensures.line c.args.slope _ _ (sum after) c.args.self.now.convex)
+    rw (raised after).same (c.operations_keep_convexity.ensures.line c.args.slope _ _ (sum after)
+    c.args.self.now.convex)
 
 pub invariant_of-self-clause-within : goal.invariant_of-self-clause-within
 invariant_of-self-clause-within c =
     let after = (goal.at.invariant_of-self-clause-within c).After-add_term in
     let old = within_limits c.args.self.now.lo c.args.self.now.values.items c.args.self.now.within in
     rw (raised after).same (AreWithin-from_limits c.args.self.now.lo c.add_term.new.values
-    (c.effects_keep_limits.ensures.sum (λ x. c.args.slope *ℤ x) _ _ (sum after) c.requires.fits old))
+    (c.operations_keep_limits.ensures.sum (λ x. c.args.slope *ℤ x) _ _ (sum after) c.requires.fits old))
 
 pub returns-clause-line : goal.returns-clause-line
 returns-clause-line c =

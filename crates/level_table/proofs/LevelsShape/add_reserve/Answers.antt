@@ -48,7 +48,7 @@ sum c = let r = raised c in IsSum-from_index (reserve_term c.args.mu c.args.cap 
 pub invariant_of-self-clause-convex : goal.invariant_of-self-clause-convex
 invariant_of-self-clause-convex c =
     let after = (goal.at.invariant_of-self-clause-convex c).After-add_term in
-    rw (raised after).same (c.effects_keep_convexity.ensures.reserve c.args.mu c.args.cap c.args.up _ _ c.requires.mu
+    rw (raised after).same (c.operations_keep_convexity.ensures.reserve c.args.mu c.args.cap c.args.up _ _ c.requires.mu
     (sum after) c.args.self.now.convex)
 
 pub invariant_of-self-clause-within : goal.invariant_of-self-clause-within
@@ -56,7 +56,7 @@ invariant_of-self-clause-within c =
     let after = (goal.at.invariant_of-self-clause-within c).After-add_term in
     let old = within_limits c.args.self.now.lo c.args.self.now.values.items c.args.self.now.within in
     rw (raised after).same (AreWithin-from_limits c.args.self.now.lo c.add_term.new.values
-    (c.effects_keep_limits.ensures.sum (reserve_term c.args.mu c.args.cap c.args.up) _ _ (sum after) c.requires.fits
+    (c.operations_keep_limits.ensures.sum (reserve_term c.args.mu c.args.cap c.args.up) _ _ (sum after) c.requires.fits
     old))
 
 pub returns-clause-ok : goal.returns-clause-ok

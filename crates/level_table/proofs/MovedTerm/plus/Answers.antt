@@ -5,7 +5,7 @@ use Rattle.level_table.proofs.MovedTerm.plus.Goals.{After-curve_at}
 pub overflow_add-x : goal.overflow_add-x
 overflow_add-x c =
     let fit = c.requires.fits in
-    let power = c.curve_places_are_limited.ensures c.args.self.now.curve.now c.requires.limited
+    let power = c.curve_powers_are_within_limits.ensures c.args.self.now.curve.now c.requires.limited
     (c.args.x +ℤ c.args.self.now.shift) fit.0 fit.1 in
     let low = power.0 in
     let high = power.1 in
@@ -29,7 +29,7 @@ curve_at-requires-clause-curve c =
 pub curve_at-requires-clause-inside : goal.curve_at-requires-clause-inside
 curve_at-requires-clause-inside c =
     let fit = c.requires.fits in
-    let power = c.curve_places_are_limited.ensures c.args.self.now.curve.now c.requires.limited
+    let power = c.curve_powers_are_within_limits.ensures c.args.self.now.curve.now c.requires.limited
     (c.args.x +ℤ c.args.self.now.shift) fit.0 fit.1 in
     let low = power.0 in
     let high = power.1 in
@@ -41,7 +41,7 @@ rise_is : (c : After-curve_at) →
     curve_value c.args.self.now.curve.now (c.args.x +ℤ c.args.self.now.shift) ≡ Some c.curve_at.result
 rise_is c =
     let fit = c.requires.fits in
-    let power = c.curve_places_are_limited.ensures c.args.self.now.curve.now c.requires.limited
+    let power = c.curve_powers_are_within_limits.ensures c.args.self.now.curve.now c.requires.limited
     (c.args.x +ℤ c.args.self.now.shift) fit.0 fit.1 in
     let low = power.0 in
     let high = power.1 in

@@ -23,7 +23,7 @@ returns-in-Some c =
       left = c.in-Some.sides.left;
       right = c.in-Some.sides.right;
     })
-    c.shift_of_rule.ensures.value))
+    c.reported_period_offset.ensures.value))
 
 pub returns : goal.returns
 returns c =

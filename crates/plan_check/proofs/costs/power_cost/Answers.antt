@@ -4,8 +4,8 @@ use Rattle.uc_model.specs.declared.units.Point.{Point}
 use Rattle.plan_check.proofs.Lemmas.{power_spans}
 use Rattle.plan_check.proofs.costs.power_cost.Goals as goal
 
-pub envelope_from_leg-requires-clause-within : goal.envelope_from_leg-requires-clause-within
-envelope_from_leg-requires-clause-within c =
+pub envelope_cost_with_cached_piece-requires-clause-within : goal.envelope_cost_with_cached_piece-requires-clause-within
+envelope_cost_with_cached_piece-requires-clause-within c =
     let g = thermal_of c.args.unit.now in
     let s = schedule_of c.args.response.now in
     let on : on_in (thermal_of c.args.unit.now) (schedule_of c.args.response.now) (suc c.args.index) ≡ true =
@@ -27,8 +27,8 @@ returns-clause-limit c = search rules
 pub returns-clause-near : goal.returns-clause-near
 returns-clause-near c = search rules
 
-pub envelope_from_leg-requires-clause-points : goal.envelope_from_leg-requires-clause-points
-envelope_from_leg-requires-clause-points c = search rules
+pub envelope_cost_with_cached_piece-requires-clause-points : goal.envelope_cost_with_cached_piece-requires-clause-points
+envelope_cost_with_cached_piece-requires-clause-points c = search rules
 
-pub envelope_from_leg-requires-clause-near : goal.envelope_from_leg-requires-clause-near
-envelope_from_leg-requires-clause-near c = search rules
+pub envelope_cost_with_cached_piece-requires-clause-near : goal.envelope_cost_with_cached_piece-requires-clause-near
+envelope_cost_with_cached_piece-requires-clause-near c = search rules

@@ -3,8 +3,8 @@ use Rattle.plan_check.proofs.Common.{get_or_from_slice_get, Block, worth_of, IsB
 use Rattle.plan_check.proofs.Common.{power_in, sum_more, item_of, map_item, worth_at}
 use Rattle.plan_check.proofs.costs.worth_of_bid.Goals as goal
 
-pub worth_of_power-requires-clause-blocks : goal.worth_of_power-requires-clause-blocks
-worth_of_power-requires-clause-blocks c =
+pub worth_of_bought_power-requires-clause-blocks : goal.worth_of_bought_power-requires-clause-blocks
+worth_of_bought_power-requires-clause-blocks c =
     subst IsBlockList (sym c.as_slice-blocks.ensures)
     (item_of IsBlockList (bid_of c.args.bid.now).blocks c.loop-index.index (items_in c.get.result.now)
     c.args.bid.now.valid.blocks
@@ -19,7 +19,7 @@ loop-index-preserved c =
     let blocks = get_or_from_slice_get b.blocks k (items_in c.get.result.now) []
     (map_item items_in c.args.bid.now.blocks.items k c.get.result.now c.get.ensures.item) in
     let power = to_z-of_z w64 c.power_at.result f ∙ c.power_at.ensures.value in
-    let value = c.worth_of_power.ensures.value ∙ ap (worth_of c.as_slice-blocks.result.now) power ∙
+    let value = c.worth_of_bought_power.ensures.value ∙ ap (worth_of c.as_slice-blocks.result.now) power ∙
     ap (λ (l : List Block). worth_of l (power_in s (suc k))) (c.as_slice-blocks.ensures ∙ sym blocks) in
     let more = sum_more k (worth_at b s) in
     record {

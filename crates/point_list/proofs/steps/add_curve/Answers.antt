@@ -49,7 +49,7 @@ returns-clause-ok c =
     c.requires.breaks c.in_ok-used.ensures.used (begins (goal.at.returns-clause-ok c).After-deref_mut)
     c.curve_step-left.new.knots c.truncate.new.self.items c.curve_step-left.result c.curve_step-left.ensures.breaks
     (kept (goal.at.returns-clause-ok c).After-truncate)
-    c.effects_are_of_values.ensures.curve (curve_value c.args.curve.now) c.args.shift
+    c.operations_depend_on_values_alone.ensures.curve (curve_value c.args.curve.now) c.args.shift
     (rw e-shift at c.curve_step-left.ensures.sum)
 
 pub returns-clause-breaks : goal.returns-clause-breaks

@@ -50,7 +50,7 @@ returns-clause-sum c =
     (counted before) (begins before)
     c.line_step.new.knots _ c.len-used.result c.line_step.ensures.breaks
     (kept (goal.at.returns-clause-sum c).After-line_step before)
-    c.effects_are_of_values.ensures.sum (λ (x : ℤ). c.args.slope *ℤ x) (rw e at c.line_step.ensures.sum)
+    c.operations_depend_on_values_alone.ensures.sum (λ (x : ℤ). c.args.slope *ℤ x) (rw e at c.line_step.ensures.sum)
 
 pub returns-clause-breaks : goal.returns-clause-breaks
 returns-clause-breaks c =

@@ -53,7 +53,7 @@ returns-clause-ok c =
     c.in_ok-used.ensures.used (begins (goal.at.returns-clause-ok c).After-deref_mut)
     c.kink_step-left.new.knots c.truncate.new.self.items c.kink_step-left.result c.kink_step-left.ensures.breaks
     (kept (goal.at.returns-clause-ok c).After-truncate)
-    c.effects_are_of_values.ensures.sum (reserve_term c.args.mu c.args.cap c.args.up)
+    c.operations_depend_on_values_alone.ensures.sum (reserve_term c.args.mu c.args.cap c.args.up)
     (rw (e-mu, e-cap, e-up) at c.kink_step-left.ensures.sum)
 
 pub returns-clause-breaks : goal.returns-clause-breaks

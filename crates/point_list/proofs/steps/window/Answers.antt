@@ -44,7 +44,7 @@ returns-clause-ok c =
     c.in_ok-used.ensures.used (begins (goal.at.returns-clause-ok c).After-deref_mut)
     c.window_step-left.new.knots c.truncate.new.self.items c.window_step-left.result c.window_step-left.ensures.breaks
     (kept (goal.at.returns-clause-ok c).After-truncate)
-    c.effects_are_of_values.ensures.window c.args.up c.args.down c.args.lo c.args.hi
+    c.operations_depend_on_values_alone.ensures.window c.args.up c.args.down c.args.lo c.args.hi
     (rw (e-up, e-down, e-lo, e-hi) at c.window_step-left.ensures.window)
 
 pub returns-clause-breaks : goal.returns-clause-breaks

@@ -5,7 +5,7 @@ use Rattle.price_settle.proofs.Common.{IsTop, market_of, schedules_of, prices_of
 use Rattle.price_settle.proofs.Common.{zip_with-push, total-push, earned_in}
 use Rattle.price_settle.proofs.Lemmas.{best_within, earned_length}
 use Rattle.price_settle.proofs.settlement.settle.Goals as goal
-use Rattle.price_settle.proofs.settlement.settle.Goals.{After-units_are_numbered}
+use Rattle.price_settle.proofs.settlement.settle.Goals.{After-unit_numbers_go_by_kind}
 
 abbrev less : ℤ → ℤ → ℤ
 less e s = e -ℤ s
@@ -15,12 +15,12 @@ zip_with-nil [] = refl
 zip_with-nil (e ∷ es) = refl
 
 -- as many earnings as units
-units_earn : (c : After-units_are_numbered) → length c.args.earned.now ≡ unit_count (market_of c.args.case.now)
+units_earn : (c : After-unit_numbers_go_by_kind) → length c.args.earned.now ≡ unit_count (market_of c.args.case.now)
 units_earn c =
     let m = market_of c.args.case.now in
     let count = length_same (λ (u : AnyUnit) (e : ℤ). IsTop u (prices_of c.args.prices.now) e) (units m)
     c.args.earned.now c.requires.best in
-    let all = (c.units_are_numbered.ensures m).count in
+    let all = (c.unit_numbers_go_by_kind.ensures m).count in
     omega (arith, count, all)
 
 pub loop-number-init : goal.loop-number-init
@@ -40,10 +40,12 @@ loop-number-init c =
       payments_room = omega (arith, b, payments);
     }
 
-pub earned_by-scheduled-requires-clause-number : goal.earned_by-scheduled-requires-clause-number
-earned_by-scheduled-requires-clause-number c =
+pub earnings_of_unit_in_plan-scheduled-requires-clause-number :
+    goal.earnings_of_unit_in_plan-scheduled-requires-clause-number
+earnings_of_unit_in_plan-scheduled-requires-clause-number c =
     let m = market_of c.args.case.now in
-    let count = units_earn (goal.at.earned_by-scheduled-requires-clause-number c).After-units_are_numbered in
+    let count = units_earn (goal.at.earnings_of_unit_in_plan-scheduled-requires-clause-number
+    c).After-unit_numbers_go_by_kind in
     let test = c.loop-number-test.true in
     let plan = (c.feasible_plans_have_shape.ensures m (schedules_of c.args.plan.now) c.requires.feasible).count in
     omega (arith, count, test, plan)
@@ -59,21 +61,21 @@ payment_of-payment-requires-clause-best c =
 
 pub add_unit-requires-clause-scheduled_room : goal.add_unit-requires-clause-scheduled_room
 add_unit-requires-clause-scheduled_room c =
-    let count = units_earn (goal.at.add_unit-requires-clause-scheduled_room c).After-units_are_numbered in
+    let count = units_earn (goal.at.add_unit-requires-clause-scheduled_room c).After-unit_numbers_go_by_kind in
     let test = c.loop-number-test.true in
     let room = c.loop-number.invariant.scheduled_room in
     omega (arith, count, test, room)
 
 pub add_unit-requires-clause-payments_room : goal.add_unit-requires-clause-payments_room
 add_unit-requires-clause-payments_room c =
-    let count = units_earn (goal.at.add_unit-requires-clause-payments_room c).After-units_are_numbered in
+    let count = units_earn (goal.at.add_unit-requires-clause-payments_room c).After-unit_numbers_go_by_kind in
     let test = c.loop-number-test.true in
     let room = c.loop-number.invariant.payments_room in
     omega (arith, count, test, room)
 
 pub add_unit-requires-clause-total : goal.add_unit-requires-clause-total
 add_unit-requires-clause-total c =
-    let count = units_earn (goal.at.add_unit-requires-clause-total c).After-units_are_numbered in
+    let count = units_earn (goal.at.add_unit-requires-clause-total c).After-unit_numbers_go_by_kind in
     let test = c.loop-number-test.true in
     let low = c.loop-number.invariant.limit.at_least in
     let high = c.loop-number.invariant.limit.at_most in
@@ -89,16 +91,16 @@ add_unit-requires-clause-total c =
 pub loop-number-preserved : goal.loop-number-preserved
 loop-number-preserved c =
     let m = market_of c.args.case.now in
-    let count = units_earn (goal.at.loop-number-preserved c).After-units_are_numbered in
+    let count = units_earn (goal.at.loop-number-preserved c).After-unit_numbers_go_by_kind in
     let test = c.loop-number-test.true in
     let ps = schedules_of c.args.plan.now in
     let xs = earned_in m ps (prices_of c.args.prices.now) in
     let k = c.loop-number.number in
-    let r = c.earned_by-scheduled.result in
+    let r = c.earnings_of_unit_in_plan-scheduled.result in
     let best = c.best_earnings_of.result in
     let known = c.loop-number.invariant in
     let done = c.loop-number.into.scheduled.items in
-    let f1 : FitsSigned w64 c.earned_by-scheduled.result = search rules in
+    let f1 : FitsSigned w64 c.earnings_of_unit_in_plan-scheduled.result = search rules in
     let f2 : FitsSigned w64 c.best_earnings_of.result = search rules in
     let f3 : FitsSigned w64 c.payment_of-payment.result = search rules in
     let scheduled = simp to_z-of_z at c.add_unit.ensures.scheduled in
@@ -117,10 +119,10 @@ loop-number-preserved c =
     let payments_spare = c.add_unit.ensures.payments_spare in
     let longer = ap length scheduled in
     let pushed = length-append done (r ∷ []) in
-    let last = earned_length m ps (prices_of c.args.prices.now) (c.units_are_numbered.ensures m)
+    let last = earned_length m ps (prices_of c.args.prices.now) (c.unit_numbers_go_by_kind.ensures m)
     (c.feasible_plans_have_shape.ensures m ps c.requires.feasible) in
     let lt : k < length xs = omega (arith, count, test, last) in
-    let item = get_or_from_slice_get xs k r (pos 0) c.earned_by-scheduled.ensures.value in
+    let item = get_or_from_slice_get xs k r (pos 0) c.earnings_of_unit_in_plan-scheduled.ensures.value in
     let at = ap (slice_get c.args.earned.now) number ∙ c.best_earnings_of.ensures in
     let totals = ap total payments ∙ total-push c.loop-number.into.payments.items c.payment_of-payment.result in
     record {
@@ -147,8 +149,8 @@ returns-clause-settled c =
     let ps = schedules_of c.args.plan.now in
     let xs = earned_in m ps (prices_of c.args.prices.now) in
     let known = c.loop-number.invariant in
-    let count = units_earn (goal.at.returns-clause-settled c).After-units_are_numbered in
-    let last = earned_length m ps (prices_of c.args.prices.now) (c.units_are_numbered.ensures m)
+    let count = units_earn (goal.at.returns-clause-settled c).After-unit_numbers_go_by_kind in
+    let last = earned_length m ps (prices_of c.args.prices.now) (c.unit_numbers_go_by_kind.ensures m)
     (c.feasible_plans_have_shape.ensures m ps c.requires.feasible) in
     let test = c.loop-number-test.false in
     let f : FitsSigned w128 c.worth_of_surplus-into.result = search rules in
@@ -163,7 +165,7 @@ returns-clause-settled c =
 
 pub returns-clause-scheduled_room : goal.returns-clause-scheduled_room
 returns-clause-scheduled_room c =
-    let count = units_earn (goal.at.returns-clause-scheduled_room c).After-units_are_numbered in
+    let count = units_earn (goal.at.returns-clause-scheduled_room c).After-unit_numbers_go_by_kind in
     let room = c.loop-number.invariant.scheduled_room in
     let test = c.loop-number-test.false in
     let end = c.loop-number.auto.number-end in
@@ -171,7 +173,7 @@ returns-clause-scheduled_room c =
 
 pub returns-clause-payments_room : goal.returns-clause-payments_room
 returns-clause-payments_room c =
-    let count = units_earn (goal.at.returns-clause-payments_room c).After-units_are_numbered in
+    let count = units_earn (goal.at.returns-clause-payments_room c).After-unit_numbers_go_by_kind in
     let room = c.loop-number.invariant.payments_room in
     let test = c.loop-number-test.false in
     let end = c.loop-number.auto.number-end in

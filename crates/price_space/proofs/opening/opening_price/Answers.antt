@@ -6,8 +6,8 @@ pub returns : goal.returns
 unfolding opened
 returns c =
     let s = c.ranges.start in
-    let a : FitsSigned w64 c.price_near.result = search rules in
-    let b : FitsSigned w128 c.opening_share.result = search rules in
-    let near = simp to_z-of_z at c.price_near.ensures.value in
-    let share = simp to_z-of_z at c.opening_share.ensures in
+    let a : FitsSigned w64 c.clamp_to_price_limit.result = search rules in
+    let b : FitsSigned w128 c.share_of_start_price.result = search rules in
+    let near = simp to_z-of_z at c.clamp_to_price_limit.ensures.value in
+    let share = simp to_z-of_z at c.share_of_start_price.ensures in
     simp to_z-of_z (near ∙ ap (λ (z : ℤ). clamped (neg_ℤ price_limit) price_limit z) share)

@@ -7,15 +7,15 @@ pub loop-k-preserved : goal.loop-k-preserved
 loop-k-preserved c =
     let m = market_of c.args.case.now in
     let k = c.loop-k.k in
-    let a : FitsSigned w64 c.start_price.result = search rules in
+    let a : FitsSigned w64 c.start_price_of_period.result = search rules in
     let items = simp to_z-of_z at c.push.ensures.items in
     let more = map-range_with_len_more (start_price m) 0 c.loop-k.k c.loop-k.k (omega arith) in
     let room = c.loop-k.invariant.room in
     let spare = c.push.ensures.spare in
     record {
       so_far = items
-          ∙ ap (λ (xs : List ℤ). xs ++ c.start_price.result ∷ []) c.loop-k.invariant.so_far
-          ∙ ap (λ (z : ℤ). map (start_price m) (range_with_len 0 c.loop-k.k) ++ z ∷ []) c.start_price.ensures
+          ∙ ap (λ (xs : List ℤ). xs ++ c.start_price_of_period.result ∷ []) c.loop-k.invariant.so_far
+          ∙ ap (λ (z : ℤ). map (start_price m) (range_with_len 0 c.loop-k.k) ++ z ∷ []) c.start_price_of_period.ensures
           ∙ sym more;
       room = omega (arith, room, spare);
     }

@@ -72,6 +72,6 @@ returns c =
       breaks = curve_sum_breaks c.args.knots.now c.args.used c.requires.breaks c.args.curve.now c.args.shift
           c.requires.some c.requires.limited c.requires.fits
           c.add_blocks-n.new.knots c.add_blocks-n.result stand c.add_blocks-n.ensures.ends
-          c.effects_keep_limits.ensures.curve;
+          c.operations_keep_limits.ensures.curve;
       charge = charge;
     }

@@ -65,6 +65,6 @@ returns c =
           c.lower.new.knots c.split-n.result (step after) (ends after);
       breaks = sum_breaks c.args.knots.now c.args.used c.requires.breaks (reserve_term c.args.mu c.args.cap c.args.up)
           c.lower.new.knots c.split-n.result (step after) (ends after)
-          c.effects_keep_limits.ensures.sum c.requires.fits;
+          c.operations_keep_limits.ensures.sum c.requires.fits;
       charge = c.split-n.ensures.charge;
     }

@@ -33,5 +33,5 @@ returns c =
     record {
       sum = sum ks n c.requires.breaks term c.raise_line.new.knots n step ends;
       breaks = sum_breaks ks n c.requires.breaks term c.raise_line.new.knots n step ends
-          c.effects_keep_limits.ensures.sum c.requires.fits;
+          c.operations_keep_limits.ensures.sum c.requires.fits;
     }

@@ -47,7 +47,7 @@ returns c =
     record {
       window = w;
       breaks = AreBreaks-from new c.cut_below-left.result (g.0, g.1)
-          (c.effects_keep_limits.ensures.window c.args.up c.args.down c.args.lo c.args.hi _ _ c.requires.lo
+          (c.operations_keep_limits.ensures.window c.args.up c.args.down c.args.lo c.args.hi _ _ c.requires.lo
           c.requires.hi w c.requires.breaks.within);
       charge = omega arith;
     }

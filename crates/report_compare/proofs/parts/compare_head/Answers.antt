@@ -18,5 +18,6 @@ returns-clause-lines c =
     let r = report_of c.args.report.now in
     let m = market_of c.args.case.now in
     let opening = rw (to_z-of_z w128 c.args.cost c.ranges.cost) at c.in_ok-line.ensures.lines in
-    behind 1 c.in_ok-line.line c.compare_number.result (opening_lines r) (right_opening m c.args.cost r)
-    (number_line (length r.rows) ∷ []) (number_line c.args.proposals ∷ []) opening c.compare_number.ensures.lines
+    behind 1 c.in_ok-line.line c.compare_proposal_count_line.result (opening_lines r) (right_opening m c.args.cost r)
+    (number_line (length r.rows) ∷ []) (number_line c.args.proposals ∷ []) opening
+    c.compare_proposal_count_line.ensures.lines

@@ -31,13 +31,14 @@ module _ (c : After-index-rows-chosen) where
   rows = map proposal_of c.args.rows.now
 
   abbrev k : ℕ
-  k = c.greatest_row-chosen.result
+  k = c.row_of_greatest_dual_value-chosen.result
 
   abbrev row : Proposal
   row = proposal_of c.index-rows-chosen.result
 
   at : slice_get rows k ≡ Some row
-  at = read_item proposal_of c.args.rows.now k c.index-rows-chosen.result c.greatest_row-chosen.ensures.place
+  at = read_item proposal_of c.args.rows.now k c.index-rows-chosen.result
+      c.row_of_greatest_dual_value-chosen.ensures.place
       c.index-rows-chosen.is
 
   made : IsMade m row
@@ -57,10 +58,10 @@ module _ (c : After-index-rows-chosen) where
 
     is_right : IsRightReport m plan r.budget r.ahead right
     is_right =
-        let counts = c.settlements_are_of_all_units.ensures m plan row.prices s.scheduled.items s.payments.items
+        let counts = c.settlement_has_entry_for_each_unit.ensures m plan row.prices s.scheduled.items s.payments.items
         s.surplus s.total audited.feasible settled in
         right_is m plan r.budget r.ahead audited.cost rows row (k + 1) a s.surplus s.total audited.cost_is
-        c.requires.run c.greatest_row-chosen.ensures.number (number_behind rows k row at)
+        c.requires.run c.row_of_greatest_dual_value-chosen.ensures.number (number_behind rows k row at)
         made.fit made.totals tops counts.0 counts.1 settled
 
     lined : (o : Result ℕ WrongLine) →
@@ -71,8 +72,8 @@ module _ (c : After-index-rows-chosen) where
         compared_as o _ (report_lines r) _ (report_lines right) (mine_whole audited.report.now audited.order)
         (right_whole m a r.budget r.ahead audited.cost rows (k + 1) row.value s.surplus s.total) told
 
-pub greatest_row-chosen-requires : goal.greatest_row-chosen-requires
-greatest_row-chosen-requires c =
+pub row_of_greatest_dual_value-chosen-requires : goal.row_of_greatest_dual_value-chosen-requires
+row_of_greatest_dual_value-chosen-requires c =
     let long = length-map c.args.rows.now proposal_of in
     let least = c.args.audited.now.bounds.budget_at_least in
     elim c.requires.run.whole [
@@ -81,7 +82,7 @@ greatest_row-chosen-requires c =
     ]
 
 pub bounds-rows-chosen : goal.bounds-rows-chosen
-bounds-rows-chosen c = c.greatest_row-chosen.ensures.place
+bounds-rows-chosen c = c.row_of_greatest_dual_value-chosen.ensures.place
 
 pub earn_all-requires-clause-some : goal.earn_all-requires-clause-some
 earn_all-requires-clause-some c = (schedules_of c.args.audited.now.plan.now, c.args.audited.now.feasible.feasible)
@@ -123,7 +124,7 @@ compare_report-requires-clause-chosen c =
     let long = length-map c.args.rows.now proposal_of in
     let within = c.requires.run.within in
     let most = c.args.audited.now.bounds.budget_at_most in
-    let index = c.greatest_row-chosen.ensures.place in
+    let index = c.row_of_greatest_dual_value-chosen.ensures.place in
     omega (arith, long, within, most, index)
 
 pub earn_all-requires-clause-horizon : goal.earn_all-requires-clause-horizon
@@ -147,7 +148,7 @@ compare_report-requires-clause-compare_room c =
     let plan = schedules_of audited.plan.now in
     let row = proposal_of c.index-rows-chosen.result in
     let settlement = c.settle.new.into in
-    let counts = c.settlements_are_of_all_units.ensures m plan row.prices settlement.scheduled.items
+    let counts = c.settlement_has_entry_for_each_unit.ensures m plan row.prices settlement.scheduled.items
     settlement.payments.items settlement.surplus settlement.total audited.feasible
     c.settle.ensures.settled in
     let long = count_zipped _ m c.earn_all.new.into.items c.earn_all.ensures.tops in

@@ -12,4 +12,4 @@ returns g c = rw (
   to_z-of_z w128 c.args.lines.now.bound (search rules),
   to_z-of_z w128 c.args.lines.now.distance (search rules),
   to_z-of_z w128 c.args.lines.now.least (search rules),
-) at c.write_form.ensures
+) at c.write_form_filled_with_parts.ensures

@@ -12,4 +12,4 @@ returns g c =
     (rw (
       to_z-of_z w64 c.args.weight (search rules),
       to_z-of_z w128 c.args.weight (search rules),
-    ) at c.write_form.ensures)
+    ) at c.write_form_filled_with_parts.ensures)

@@ -3,4 +3,4 @@ use Rattle.report_form.proofs.convex.write_mixture_unit.Goals as goal
 
 pub returns : goal.returns
 unfolding mixed_text
-returns g c = rw (← c.as_bytes-bytes.ensures.value) c.write_form.ensures
+returns g c = rw (← c.as_bytes-bytes.ensures.value) c.write_form_filled_with_parts.ensures

@@ -7,4 +7,4 @@ returns g c = rw (
   to_z-of_z w128 c.args.surplus (search rules),
   to_z-of_z w128 c.args.payments (search rules),
   to_z-of_z w128 c.args.gap (search rules),
-) at c.write_form.ensures
+) at c.write_form_filled_with_parts.ensures

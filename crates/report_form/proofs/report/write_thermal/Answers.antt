@@ -17,4 +17,4 @@ returns g c =
       to_z-of_z w128 c.args.owed.now.earned (search rules),
       to_z-of_z w128 c.args.owed.now.scheduled (search rules),
       to_z-of_z w128 c.args.owed.now.payment (search rules),
-    ) at c.write_form.ensures)
+    ) at c.write_form_filled_with_parts.ensures)

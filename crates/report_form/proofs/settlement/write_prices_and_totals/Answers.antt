@@ -8,4 +8,4 @@ returns g c = rw (
   ← c.as_slice-reserve.ensures,
   ← c.as_slice-supplied.ensures,
   ← c.as_slice-reserved.ensures,
-) (rw (to_z-of_z w128 c.args.row.now.value (search rules)) at c.write_form.ensures)
+) (rw (to_z-of_z w128 c.args.row.now.value (search rules)) at c.write_form_filled_with_parts.ensures)

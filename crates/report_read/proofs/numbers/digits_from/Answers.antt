@@ -10,7 +10,7 @@ returns-then-not-is_ascii_digit c =
     (sym c.if-not-is_ascii_digit.ensures.value) in
     let whole : digits_spec c.args.first c.args.bytes.now ≡ (c.loop-offset.number, c.bytes_from.result.now) =
     c.loop-offset.invariant ∙ stop ∙ ap (λ (z : List ℕ). (c.loop-offset.number, z)) (sym c.bytes_from.ensures) in
-    rw whole c.number_and_rest.ensures
+    rw whole c.number_within_limit_and_rest.ensures
 
 pub returns-then-number-gt-MOST_BEFORE_LAST : goal.returns-then-number-gt-MOST_BEFORE_LAST
 returns-then-number-gt-MOST_BEFORE_LAST c =
@@ -31,4 +31,4 @@ returns c =
     let whole : digits_spec c.args.first c.args.bytes.now ≡ (c.loop-offset.number, c.bytes_from-2.result.now) =
     c.loop-offset.invariant ∙ stop ∙ ap (λ (z : List ℕ). (c.loop-offset.number, z))
     (same ∙ sym c.bytes_from-2.ensures) in
-    rw whole c.number_and_rest-2.ensures
+    rw whole c.number_within_limit_and_rest-2.ensures

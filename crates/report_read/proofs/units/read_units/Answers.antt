@@ -17,7 +17,7 @@ loop-preserved c =
     ≡ map told_of c.loop.lines.items ++ told_of c.in_ok-line.line ∷ [] =
     ap (map told_of) c.push.ensures.items ∙ map_push told_of c.loop.lines.items c.in_ok-line.line in
     record {
-      reads = rw (pushed, c.rank_of_kind-least.ensures)
+      reads = rw (pushed, c.rank_of_unit_kind-least.ensures)
           (unit_goes_on c.args.periods c.loop.least c.args.count c.loop.counter (map told_of c.loop.lines.items)
           c.loop.reader.rest.now (told_of c.in_ok-line.line) c.read_unit.new.reader.rest.now
           (units_at c.args.periods 0 c.args.count c.args.reader.now.rest.now) c.loop-test.true c.in_ok-line.ensures

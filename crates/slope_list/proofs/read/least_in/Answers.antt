@@ -11,22 +11,22 @@ returns-then-low-high c =
     HasNone-on (function_of c.args.start c.args.pieces.now) c.args.start.first
     (last_power c.args.start.first c.args.pieces.now) c.args.lo c.args.hi (omega (arith, ints, clamps))
 
-pub spot_at_power-requires-clause-from : goal.spot_at_power-requires-clause-from
-spot_at_power-requires-clause-from c =
+pub power_with_its_value-requires-clause-from : goal.power_with_its_value-requires-clause-from
+power_with_its_value-requires-clause-from c =
     let ff : FitsSigned w64 c.args.start.first = search rules in
     let last : c.last_power.result ≡ last_power c.args.start.first c.args.pieces.now =
     rw (to_z-of_z w64 c.args.start.first ff) at c.last_power.ensures in
     omega (arith, ints, clamps)
 
-pub spot_at_power-requires-clause-to : goal.spot_at_power-requires-clause-to
-spot_at_power-requires-clause-to c =
+pub power_with_its_value-requires-clause-to : goal.power_with_its_value-requires-clause-to
+power_with_its_value-requires-clause-to c =
     let ff : FitsSigned w64 c.args.start.first = search rules in
     let last : c.last_power.result ≡ last_power c.args.start.first c.args.pieces.now =
     rw (to_z-of_z w64 c.args.start.first ff) at c.last_power.ensures in
     omega (arith, ints, clamps)
 
-pub spot_at_power-requires-clause-within : goal.spot_at_power-requires-clause-within
-spot_at_power-requires-clause-within c = c.requires.within
+pub power_with_its_value-requires-clause-within : goal.power_with_its_value-requires-clause-within
+power_with_its_value-requires-clause-within c = c.requires.within
 
 pub returns : goal.returns
 returns c =
@@ -42,11 +42,12 @@ returns c =
     omega (arith, ints, clamps) in
     let at : c.max-at.result ≡ int_max c.max-low.result (int_min c.min-high.result c.end_of_fall.result.at) =
     omega (arith, ints, clamps) in
-    let is : c.spot_at_power.result.at ≡ c.max-at.result = c.spot_at_power.ensures.at ∙ e in
-    let value : c.spot_at_power.result.value ≡ f c.max-at.result = c.spot_at_power.ensures.value ∙ ap f e in
+    let is : c.power_with_its_value.result.at ≡ c.max-at.result = c.power_with_its_value.ensures.at ∙ e in
+    let value : c.power_with_its_value.result.value ≡ f c.max-at.result = c.power_with_its_value.ensures.value ∙ ap f
+    e in
     subst (λ (z : ℤ). IsLeastIn c.args.lo c.args.hi (table_of c.args.start c.args.pieces.now)
-    c.spot_at_power.result.value z)
+    c.power_with_its_value.result.value z)
     (sym is)
     (IsLeastIn-valley f c.args.start.first (last_power c.args.start.first c.args.pieces.now) c.end_of_fall.result.at v
     c.args.lo c.args.hi c.max-low.result c.min-high.result c.max-at.result low high (omega (arith, ints)) at
-    c.spot_at_power.result.value value)
+    c.power_with_its_value.result.value value)

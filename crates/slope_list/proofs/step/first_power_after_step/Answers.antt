@@ -51,10 +51,10 @@ pub overflow_add-low : goal.overflow_add-low
 overflow_add-low c = fits_sum c.args.low c.args.window.now.step.ramp_down c.requires.at
     c.args.window.now.valid.fair.ramp_down
 
-pub seek_power-reached-requires : goal.seek_power-reached-requires
-seek_power-reached-requires c =
+pub value_and_piece_at_power-reached-requires : goal.value_and_piece_at_power-reached-requires
+value_and_piece_at_power-reached-requires c =
     let w = c.args.window.now in
-    let n = near (goal.at.seek_power-reached-requires c).After-max-near in
+    let n = near (goal.at.value_and_piece_at_power-reached-requires c).After-max-near in
     record {
       slopes = w.valid.slopes;
       from = rw n.coded n.from;
@@ -63,8 +63,8 @@ seek_power-reached-requires c =
           within_from_small w.start w.pieces.now w.valid.small;
     }
 
-pub find_power-found-requires : goal.find_power-found-requires
-find_power-found-requires c =
+pub cost_and_block_at_power-found-requires : goal.cost_and_block_at_power-found-requires
+cost_and_block_at_power-found-requires c =
     let cv = c.args.curve.now in
     let el = to_z-of_z w64 c.args.low c.ranges.low in
     let k = c.requires.costs c.args.low (same_le c.args.low) c.requires.to in
@@ -83,17 +83,18 @@ value_after_step-requires c =
     let small = w.valid.small c.max-near.result n.from n.to in
     let el = to_z-of_z w64 c.args.low c.ranges.low in
     let k = c.requires.costs c.args.low (same_le c.args.low) c.requires.to in
-    let fv : FitsSigned w64 c.seek_power-reached.result.value = search rules in
-    let fc : FitsSigned w64 c.find_power-found.result.value = search rules in
-    let value : c.seek_power-reached.result.value ≡ function_of w.start w.pieces.now c.max-near.result =
-    rw n.coded at c.seek_power-reached.ensures.value in
-    let cost : k.0 ≡ c.find_power-found.result.value = cc (k.1, rw el at c.find_power-found.ensures.value) in
+    let fv : FitsSigned w64 c.value_and_piece_at_power-reached.result.value = search rules in
+    let fc : FitsSigned w64 c.cost_and_block_at_power-found.result.value = search rules in
+    let value : c.value_and_piece_at_power-reached.result.value ≡ function_of w.start w.pieces.now c.max-near.result =
+    rw n.coded at c.value_and_piece_at_power-reached.ensures.value in
+    let cost : k.0 ≡ c.cost_and_block_at_power-found.result.value = cc
+    (k.1, rw el at c.cost_and_block_at_power-found.ensures.value) in
     record {
       fair = w.valid.fair;
-      value = rw (to_z-of_z w64 c.seek_power-reached.result.value fv, value) small.1;
+      value = rw (to_z-of_z w64 c.value_and_piece_at_power-reached.result.value fv, value) small.1;
       near = rw n.coded small.0;
       at = rw el c.requires.at;
-      cost = rw (to_z-of_z w64 c.find_power-found.result.value fc) (subst (λ (z : ℤ). IsCost z) cost k.2);
+      cost = rw (to_z-of_z w64 c.cost_and_block_at_power-found.result.value fc) (subst (λ (z : ℤ). IsCost z) cost k.2);
     }
 
 pub returns : goal.returns
@@ -104,20 +105,22 @@ returns c =
     let low = c.args.low in
     let n = near (goal.at.returns c).After-max-near in
     let el = to_z-of_z w64 low c.ranges.low in
-    let fv : FitsSigned w64 c.seek_power-reached.result.value = search rules in
-    let fc : FitsSigned w64 c.find_power-found.result.value = search rules in
+    let fv : FitsSigned w64 c.value_and_piece_at_power-reached.result.value = search rules in
+    let fc : FitsSigned w64 c.cost_and_block_at_power-found.result.value = search rules in
     let fl : FitsSigned w64 c.value_after_step.result = search rules in
-    let value : c.seek_power-reached.result.value ≡ function_of w.start w.pieces.now c.max-near.result =
-    rw n.coded at c.seek_power-reached.ensures.value in
-    let cost = cost_at_is cv low c.find_power-found.result.value (rw el at c.find_power-found.ensures.value) in
+    let value : c.value_and_piece_at_power-reached.result.value ≡ function_of w.start w.pieces.now c.max-near.result =
+    rw n.coded at c.value_and_piece_at_power-reached.ensures.value in
+    let cost = cost_at_is cv low c.cost_and_block_at_power-found.result.value
+    (rw el at c.cost_and_block_at_power-found.ensures.value) in
     let got : c.value_after_step.result
-    ≡ ((c.seek_power-reached.result.value +ℤ reserve_term s.reserve_price s.cap s.ramp_up c.max-near.result)
-    +ℤ s.slope *ℤ low) +ℤ c.find_power-found.result.value =
+    ≡ ((c.value_and_piece_at_power-reached.result.value +ℤ reserve_term s.reserve_price s.cap s.ramp_up
+    c.max-near.result)
+    +ℤ s.slope *ℤ low) +ℤ c.cost_and_block_at_power-found.result.value =
     rw (
-      to_z-of_z w64 c.seek_power-reached.result.value fv,
+      to_z-of_z w64 c.value_and_piece_at_power-reached.result.value fv,
       n.coded,
       el,
-      to_z-of_z w64 c.find_power-found.result.value
+      to_z-of_z w64 c.cost_and_block_at_power-found.result.value
           fc,
     )
     at c.value_after_step.ensures in
@@ -125,13 +128,13 @@ returns c =
     let high = on_curve cv w.high kh.0 (wide_of cv c.requires.limited) kh.1 in
     record {
       near = n.coded ∙ n.is;
-      placed = c.seek_power-reached.ensures.placed;
-      pen = (el, refl, c.find_power-found.ensures.blocks);
-      block = λ h. (rw el at c.find_power-found.ensures.block)
+      placed = c.value_and_piece_at_power-reached.ensures.placed;
+      pen = (el, refl, c.cost_and_block_at_power-found.ensures.blocks);
+      block = λ h. (rw el at c.cost_and_block_at_power-found.ensures.block)
           (rw (end_of-width cv.at cv.blocks.items) (lt_le_trans low w.high _ h high.to));
       level = to_z-of_z w64 c.value_after_step.result fl ∙ got
           ∙ level_joined (function_of w.start w.pieces.now) (reserve_term s.reserve_price s.cap s.ramp_up)
-          c.max-near.result (nearest s.ramp_up s.ramp_down w.turn low) c.seek_power-reached.result.value
+          c.max-near.result (nearest s.ramp_up s.ramp_down w.turn low) c.value_and_piece_at_power-reached.result.value
           (s.slope *ℤ low)
-          c.find_power-found.result.value _ value n.is cost;
+          c.cost_and_block_at_power-found.result.value _ value n.is cost;
     }

@@ -7,7 +7,7 @@ use Rattle.slope_list.proofs.Lemmas.{fits_less, test_true, test_false}
 use Rattle.slope_list.proofs.StepLaws.{small_from_table, gentle_from_small, costs_on, stepped_none, turn_on, written}
 use Rattle.slope_list.proofs.StepLaws.{written_slopes, written_within, step_low, step_high, step_output}
 use Rattle.slope_list.proofs.step.write_stepped_pieces.Goals as goal
-use Rattle.slope_list.proofs.step.write_stepped_pieces.Goals.{After-turning_power-turn}
+use Rattle.slope_list.proofs.step.write_stepped_pieces.Goals.{After-power_of_least_value_less_reserve-turn}
 
 -- where the function before the step begins and ends
 record Ends (start : Start) (ps : List Piece) : Type 0 where
@@ -26,19 +26,20 @@ ends start ps slopes small =
     }
 
 -- the ends of the function after the step, and its turn
-record Range (c : After-turning_power-turn) : Type 0 where
+record Range (c : After-power_of_least_value_less_reserve-turn) : Type 0 where
   ends : Ends c.args.start c.args.pieces.now
   low_is : c.max-low.result ≡ int_max c.args.step.least (c.args.start.first -ℤ c.args.step.ramp_down)
   high_is : c.min-high.result ≡ int_min c.args.step.most
       (last_power c.args.start.first c.args.pieces.now +ℤ c.args.step.ramp_up)
   low : to_z w64 (of_z w64 c.max-low.result) ≡ c.max-low.result
   high : to_z w64 (of_z w64 c.min-high.result) ≡ c.min-high.result
-  turn : to_z w64 (of_z w64 c.turning_power-turn.result) ≡ c.turning_power-turn.result
+  turn : to_z w64 (of_z w64 c.power_of_least_value_less_reserve-turn.result) ≡
+      c.power_of_least_value_less_reserve-turn.result
   at_low : (c.args.start.first ≤ℤ (c.max-low.result +ℤ c.args.step.ramp_down)) × (c.args.step.least ≤ℤ c.max-low.result)
   at_high : (c.min-high.result ≤ℤ (last_power c.args.start.first c.args.pieces.now +ℤ c.args.step.ramp_up)) ×
       (c.min-high.result ≤ℤ c.args.step.most)
 
-range : (c : After-turning_power-turn) → Range c
+range : (c : After-power_of_least_value_less_reserve-turn) → Range c
 range c =
     let s = c.args.step in
     let ps = c.args.pieces.now in
@@ -60,35 +61,41 @@ range c =
     ) at c.min-high.ensures.value in
     let gl : FitsSigned w64 c.max-low.result = search rules in
     let gh : FitsSigned w64 c.min-high.result = search rules in
-    let gt : FitsSigned w64 c.turning_power-turn.result = search rules in
+    let gt : FitsSigned w64 c.power_of_least_value_less_reserve-turn.result = search rules in
     record {
       ends = e;
       low_is = low_is;
       high_is = high_is;
       low = to_z-of_z w64 c.max-low.result gl;
       high = to_z-of_z w64 c.min-high.result gh;
-      turn = to_z-of_z w64 c.turning_power-turn.result gt;
+      turn = to_z-of_z w64 c.power_of_least_value_less_reserve-turn.result gt;
       at_low = step_low c.max-low.result s.least start.first s.ramp_down low_is;
       at_high = step_high c.min-high.result s.most (last_power start.first ps) s.ramp_up high_is;
     }
 
-costs : (c : After-turning_power-turn) → HasCosts c.args.curve.now c.max-low.result c.min-high.result
+costs : (c : After-power_of_least_value_less_reserve-turn) → HasCosts c.args.curve.now c.max-low.result
+    c.min-high.result
 costs c =
     let r = range c in
-    costs_on c.args.start c.args.pieces.now c.args.step c.args.curve.now c.turning_power-turn.result c.max-low.result
-    c.min-high.result c.requires.slopes c.requires.step c.requires.curve c.turning_power-turn.ensures r.low_is r.high_is
+    costs_on c.args.start c.args.pieces.now c.args.step c.args.curve.now
+    c.power_of_least_value_less_reserve-turn.result c.max-low.result
+    c.min-high.result c.requires.slopes c.requires.step c.requires.curve
+    c.power_of_least_value_less_reserve-turn.ensures r.low_is r.high_is
 
-turned : (c : After-turning_power-turn) →
-    IsTurn c.args.step (table_of c.args.start c.args.pieces.now) (to_z w64 (of_z w64 c.turning_power-turn.result))
+turned : (c : After-power_of_least_value_less_reserve-turn) →
+    IsTurn c.args.step (table_of c.args.start c.args.pieces.now)
+    (to_z w64 (of_z w64 c.power_of_least_value_less_reserve-turn.result))
 turned c =
     let r = range c in
     subst (IsTurn c.args.step (table_of c.args.start c.args.pieces.now)) (sym r.turn)
-    (turn_on c.args.start c.args.pieces.now c.args.step c.args.curve.now c.turning_power-turn.result c.max-low.result
-    c.min-high.result c.requires.slopes c.requires.step c.requires.curve c.turning_power-turn.ensures r.low_is
+    (turn_on c.args.start c.args.pieces.now c.args.step c.args.curve.now
+    c.power_of_least_value_less_reserve-turn.result c.max-low.result
+    c.min-high.result c.requires.slopes c.requires.step c.requires.curve
+    c.power_of_least_value_less_reserve-turn.ensures r.low_is
     r.high_is)
 
 -- there is a power
-order : (c : After-turning_power-turn) → Range c → lt_z (to_z w64 (of_z w64 c.min-high.result))
+order : (c : After-power_of_least_value_less_reserve-turn) → Range c → lt_z (to_z w64 (of_z w64 c.min-high.result))
     (to_z w64 (of_z w64 c.max-low.result)) ≡ false → c.max-low.result ≤ℤ c.min-high.result
 order c r = test_false c.min-high.result c.max-low.result _ _ r.high r.low
 
@@ -105,39 +112,43 @@ overflow_add-last_power c =
     rw last (fits_sum (last_power c.args.start.first c.args.pieces.now) c.args.step.ramp_up e.last
     c.requires.step.ramp_up)
 
-pub turning_power-turn-requires-clause-gentle : goal.turning_power-turn-requires-clause-gentle
-turning_power-turn-requires-clause-gentle c =
+pub power_of_least_value_less_reserve-turn-requires-clause-gentle :
+    goal.power_of_least_value_less_reserve-turn-requires-clause-gentle
+power_of_least_value_less_reserve-turn-requires-clause-gentle c =
     let e = ends c.args.start c.args.pieces.now c.requires.slopes c.requires.small in
     gentle_from_small c.args.start c.args.pieces.now c.requires.slopes e.small
 
 pub returns-then-low-high-clause-stepped : goal.returns-then-low-high-clause-stepped
 returns-then-low-high-clause-stepped c =
-    let r = range (goal.at.returns-then-low-high-clause-stepped c).After-turning_power-turn in
-    stepped_none c.args.start c.args.pieces.now c.args.step c.args.curve.now c.turning_power-turn.result
+    let r = range (goal.at.returns-then-low-high-clause-stepped c).After-power_of_least_value_less_reserve-turn in
+    stepped_none c.args.start c.args.pieces.now c.args.step c.args.curve.now
+    c.power_of_least_value_less_reserve-turn.result
     c.max-low.result
-    c.min-high.result c.requires.slopes c.requires.step c.requires.curve c.turning_power-turn.ensures r.low_is r.high_is
+    c.min-high.result c.requires.slopes c.requires.step c.requires.curve
+    c.power_of_least_value_less_reserve-turn.ensures r.low_is r.high_is
     (test_true c.min-high.result c.max-low.result _ _ r.high r.low c.if-low-high.true)
 
 pub returns-then-low-high-clause-turn : goal.returns-then-low-high-clause-turn
-returns-then-low-high-clause-turn c = turned (goal.at.returns-then-low-high-clause-turn c).After-turning_power-turn
+returns-then-low-high-clause-turn c = turned (goal.at.returns-then-low-high-clause-turn
+    c).After-power_of_least_value_less_reserve-turn
 
 pub invariant_of-window : goal.invariant_of-window
 invariant_of-window c =
-    let r = range (goal.at.invariant_of-window c).After-turning_power-turn in
+    let r = range (goal.at.invariant_of-window c).After-power_of_least_value_less_reserve-turn in
     record {
       valid = record {
         slopes = c.requires.slopes;
         small = r.ends.small;
         gentle = gentle_from_small c.args.start c.args.pieces.now c.requires.slopes r.ends.small;
         fair = c.requires.step;
-        valley = rw r.turn c.turning_power-turn.ensures;
+        valley = rw r.turn c.power_of_least_value_less_reserve-turn.ensures;
         high = rw r.high r.at_high.0;
       };
     }
 
 pub first_power_after_step-opening-requires : goal.first_power_after_step-opening-requires
 first_power_after_step-opening-requires c =
-    let t = (goal.at.first_power_after_step-opening-requires c).After-turning_power-turn in
+    let t = (goal.at.first_power_after_step-opening-requires c).After-power_of_least_value_less_reserve-turn in
     let r = range t in
     let rise = order t r c.if-low-high.false in
     record {
@@ -149,9 +160,9 @@ first_power_after_step-opening-requires c =
       costs = rw (r.low, r.high) (costs t);
     }
 
-pub draw_step-used-requires : goal.draw_step-used-requires
-draw_step-used-requires c =
-    let t = (goal.at.draw_step-used-requires c).After-turning_power-turn in
+pub write_pieces_after_step-used-requires : goal.write_pieces_after_step-used-requires
+write_pieces_after_step-used-requires c =
+    let t = (goal.at.write_pieces_after_step-used-requires c).After-power_of_least_value_less_reserve-turn in
     let r = range t in
     let pen = c.first_power_after_step-opening.ensures.pen in
     record {
@@ -168,40 +179,42 @@ draw_step-used-requires c =
 
 pub returns : goal.returns
 returns c =
-    let t = (goal.at.returns c).After-turning_power-turn in
+    let t = (goal.at.returns c).After-power_of_least_value_less_reserve-turn in
     let r = range t in
     let at = c.first_power_after_step-opening.ensures.pen.0 ∙ r.low in
     let gv : FitsSigned w64 c.first_power_after_step-opening.result.level = search rules in
     let cw = to_z-of_z w64 c.first_power_after_step-opening.result.level gv in
     let level : c.first_power_after_step-opening.result.level ≡ stepped c.args.start c.args.pieces.now c.args.step
-    c.turning_power-turn.result
+    c.power_of_least_value_less_reserve-turn.result
     c.args.curve.now c.max-low.result = rw (r.turn, r.low) at c.first_power_after_step-opening.ensures.level in
-    let stand = rw (r.turn, at) at c.draw_step-used.ensures.drawn in
-    let last = rw (at, r.high) at c.draw_step-used.ensures.ends in
-    let used = c.draw_step-used.ensures.used in
-    let room : c.draw_step-used.result ≤ length c.draw_step-used.new.out = omega arith in
+    let stand = rw (r.turn, at) at c.write_pieces_after_step-used.ensures.drawn in
+    let last = rw (at, r.high) at c.write_pieces_after_step-used.ensures.ends in
+    let used = c.write_pieces_after_step-used.ensures.used in
+    let room : c.write_pieces_after_step-used.result ≤ length c.write_pieces_after_step-used.new.out = omega arith in
     record {
       stepped = rw (r.low, cw) (written c.args.start c.args.pieces.now c.args.step c.args.curve.now
-          c.turning_power-turn.result
+          c.power_of_least_value_less_reserve-turn.result
           c.max-low.result c.min-high.result c.requires.slopes c.requires.step c.requires.curve
-          c.turning_power-turn.ensures
-          r.low_is r.high_is c.first_power_after_step-opening.result.level c.draw_step-used.new.out
-          c.draw_step-used.result room
+          c.power_of_least_value_less_reserve-turn.ensures
+          r.low_is r.high_is c.first_power_after_step-opening.result.level c.write_pieces_after_step-used.new.out
+          c.write_pieces_after_step-used.result room
           stand last level);
       slopes = rw r.low (written_slopes c.args.start c.args.pieces.now c.args.step c.args.curve.now
-          c.turning_power-turn.result
+          c.power_of_least_value_less_reserve-turn.result
           c.max-low.result c.min-high.result c.requires.slopes c.requires.step c.requires.curve
-          c.turning_power-turn.ensures
-          r.low_is r.high_is c.first_power_after_step-opening.result.level c.draw_step-used.new.out
-          c.draw_step-used.result room
+          c.power_of_least_value_less_reserve-turn.ensures
+          r.low_is r.high_is c.first_power_after_step-opening.result.level c.write_pieces_after_step-used.new.out
+          c.write_pieces_after_step-used.result room
           stand last level
-          c.steps_keep_convexity.ensures c.convexity_is_of_places.ensures);
+          c.steps_keep_convexity.ensures c.convexity_depends_on_values_alone.ensures);
       within = rw (r.low, cw) (written_within c.args.start c.args.pieces.now c.args.step c.args.curve.now
-          c.turning_power-turn.result c.max-low.result c.min-high.result c.requires.slopes c.requires.step
+          c.power_of_least_value_less_reserve-turn.result c.max-low.result c.min-high.result c.requires.slopes
+          c.requires.step
           c.requires.curve
-          r.ends.small c.turning_power-turn.ensures r.low_is r.high_is c.first_power_after_step-opening.result.level
-          c.draw_step-used.new.out
-          c.draw_step-used.result room stand last level);
+          r.ends.small c.power_of_least_value_less_reserve-turn.ensures r.low_is r.high_is
+          c.first_power_after_step-opening.result.level
+          c.write_pieces_after_step-used.new.out
+          c.write_pieces_after_step-used.result room stand last level);
       turn = turned t;
       count = used;
     }

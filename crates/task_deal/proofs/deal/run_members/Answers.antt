@@ -5,10 +5,10 @@ use Rattle.task_deal.proofs.Together.{AreOf, ready, worked, whole, made_of, memb
 use Rattle.task_deal.proofs.Together.{purses_left, ledger_begins, Worked}
 use Rattle.task_deal.proofs.deal.run_members.Goals as goal
 use Rattle.task_deal.proofs.deal.run_members.Given.{Over}
-use Rattle.task_deal.proofs.deal.run_members.Goals.{After-work_all}
+use Rattle.task_deal.proofs.deal.run_members.Goals.{After-run_members_in_threads}
 
 -- the members before they work and after
-module _ (g : Over) (c : After-work_all g) where
+module _ (g : Over) (c : After-run_members_in_threads g) where
   abbrev shared : Shared
   shared = c.args.shared.now
 
@@ -16,10 +16,10 @@ module _ (g : Over) (c : After-work_all g) where
   ss = c.make_members.new.members.items
 
   abbrev ts : List (Member g.row.J.Denot)
-  ts = c.work_all.new.members
+  ts = c.run_members_in_threads.new.members
 
   count : length ts ≡ length ss
-  count = omega (arith, c.work_all.auto.members, ap length c.deref_mut.ensures.value)
+  count = omega (arith, c.run_members_in_threads.auto.members, ap length c.deref_mut.ensures.value)
 
   all : take c.make_members.new.members.len (ts ++ drop (length ts) ss) ≡ ts
   all = whole c.make_members.new.members.len ss ts c.make_members.new.members.ok.0 count
@@ -34,7 +34,7 @@ module _ (g : Over) (c : After-work_all g) where
 
   zip : AllZip (Worked c.args.shared.now g.J.Job.work g.J.Job.runs g.J.Job.spare) ss ts
   zip = worked c.args.shared.now g.J.Job.work g.J.Job.runs g.J.Job.spare c.deref_mut.result.now ss ts
-      c.deref_mut.ensures.value c.work_all.auto.members c.work_all.ensures
+      c.deref_mut.ensures.value c.run_members_in_threads.auto.members c.run_members_in_threads.ensures
 
   were : (length c.args.jobs.now.items ≡ length ss) × (length c.args.hands.owns.items ≡ length ss) ×
       (length c.args.hands.purses.items ≡ length ss)
@@ -56,8 +56,8 @@ make_members-requires-clause-purses g c = c.requires.hands.purses_count
 pub make_members-requires-clause-room : goal.make_members-requires-clause-room
 make_members-requires-clause-room g c = c.requires.room
 
-pub work_all-requires-clause-some : goal.work_all-requires-clause-some
-work_all-requires-clause-some g c κs within =
+pub run_members_in_threads-requires-clause-some : goal.run_members_in_threads-requires-clause-some
+run_members_in_threads-requires-clause-some g c κs within =
     let ss = c.make_members.new.members.items in
     let are : AreOf ss c.args.jobs.now.items c.args.hands.owns.items c.args.hands.purses.items =
     record {
@@ -70,8 +70,8 @@ work_all-requires-clause-some g c κs within =
     ((members_count ss c.args.jobs.now.items c.args.hands.owns.items c.args.hands.purses.items are).0 ∙
     sym (ap length c.deref_mut.ensures.value)) c.requires.jobs
 
-pub work_all-requires-clause-ready : goal.work_all-requires-clause-ready
-work_all-requires-clause-ready g c κs within =
+pub run_members_in_threads-requires-clause-ready : goal.run_members_in_threads-requires-clause-ready
+run_members_in_threads-requires-clause-ready g c κs within =
     let shared : Shared = c.args.shared.now in
     let ss = c.make_members.new.members.items in
     let are : AreOf ss c.args.jobs.now.items c.args.hands.owns.items c.args.hands.purses.items =
@@ -88,21 +88,21 @@ work_all-requires-clause-ready g c κs within =
     subst (All (λ (m : Member g.row.J.Denot). IsSeatOf shared m.seat × (c.args.tasks ≤ g.J.Job.spare m.job)))
     (sym c.deref_mut.ensures.value) begin
 
-pub split_members-requires-clause-owner : goal.split_members-requires-clause-owner
-split_members-requires-clause-owner g c =
-    let d = (goal.at.split_members-requires-clause-owner g c).After-work_all in
+pub unzip_members_into_parts-requires-clause-owner : goal.unzip_members_into_parts-requires-clause-owner
+unzip_members_into_parts-requires-clause-owner g c =
+    let d = (goal.at.unzip_members_into_parts-requires-clause-owner g c).After-run_members_in_threads in
     let o = c.make_members.ensures.owner in
     (o.0, o.1, ap (λ (v : Account). v.parts) o.2 ∙ sym (ap length (all g d) ∙ count g d))
 
-pub split_members-requires-clause-members : goal.split_members-requires-clause-members
-split_members-requires-clause-members g c =
-    let d = (goal.at.split_members-requires-clause-members g c).After-work_all in
+pub unzip_members_into_parts-requires-clause-members : goal.unzip_members_into_parts-requires-clause-members
+unzip_members_into_parts-requires-clause-members g c =
+    let d = (goal.at.unzip_members_into_parts-requires-clause-members g c).After-run_members_in_threads in
     subst (All (λ (m : Member g.row.J.Denot). HasPart (shared g d).source m.seat)) (sym (all g d))
     (parts_left (shared g d) g.J.Job.work g.J.Job.runs g.J.Job.spare (ss g d) (ts g d) (zip g d))
 
-pub split_members-requires-clause-jobs : goal.split_members-requires-clause-jobs
-split_members-requires-clause-jobs g c =
-    let d = (goal.at.split_members-requires-clause-jobs g c).After-work_all in
+pub unzip_members_into_parts-requires-clause-jobs : goal.unzip_members_into_parts-requires-clause-jobs
+unzip_members_into_parts-requires-clause-jobs g c =
+    let d = (goal.at.unzip_members_into_parts-requires-clause-jobs g c).After-run_members_in_threads in
     omega (
       arith,
       ap length (all g d),
@@ -113,9 +113,9 @@ split_members-requires-clause-jobs g c =
       c.args.jobs.now.ok.1,
     )
 
-pub split_members-requires-clause-owns : goal.split_members-requires-clause-owns
-split_members-requires-clause-owns g c =
-    let d = (goal.at.split_members-requires-clause-owns g c).After-work_all in
+pub unzip_members_into_parts-requires-clause-owns : goal.unzip_members_into_parts-requires-clause-owns
+unzip_members_into_parts-requires-clause-owns g c =
+    let d = (goal.at.unzip_members_into_parts-requires-clause-owns g c).After-run_members_in_threads in
     omega (
       arith,
       ap length (all g d),
@@ -126,9 +126,9 @@ split_members-requires-clause-owns g c =
       c.args.hands.owns.ok.1,
     )
 
-pub split_members-requires-clause-purses : goal.split_members-requires-clause-purses
-split_members-requires-clause-purses g c =
-    let d = (goal.at.split_members-requires-clause-purses g c).After-work_all in
+pub unzip_members_into_parts-requires-clause-purses : goal.unzip_members_into_parts-requires-clause-purses
+unzip_members_into_parts-requires-clause-purses g c =
+    let d = (goal.at.unzip_members_into_parts-requires-clause-purses g c).After-run_members_in_threads in
     omega (
       arith,
       ap length (all g d),
@@ -139,84 +139,98 @@ split_members-requires-clause-purses g c =
       c.args.hands.purses.ok.1,
     )
 
-pub settle_purses-requires-clause-count : goal.settle_purses-requires-clause-count
-settle_purses-requires-clause-count g c =
-    let d = (goal.at.settle_purses-requires-clause-count g c).After-work_all in
-    let then : AreOf (ts g d) c.split_members.new.jobs.items c.split_members.new.owns.items
-    c.split_members.new.purses.items =
-    made_of _ (ts g d) c.split_members.new.jobs.items c.split_members.new.owns.items c.split_members.new.purses.items
-    (all g d) c.split_members.ensures.jobs c.split_members.ensures.owns c.split_members.ensures.purses in
-    let are = members_count (ts g d) c.split_members.new.jobs.items c.split_members.new.owns.items
-    c.split_members.new.purses.items then in
+pub return_steal_permissions_of_all-requires-clause-count : goal.return_steal_permissions_of_all-requires-clause-count
+return_steal_permissions_of_all-requires-clause-count g c =
+    let d = (goal.at.return_steal_permissions_of_all-requires-clause-count g c).After-run_members_in_threads in
+    let then : AreOf (ts g d) c.unzip_members_into_parts.new.jobs.items c.unzip_members_into_parts.new.owns.items
+    c.unzip_members_into_parts.new.purses.items =
+    made_of _ (ts g d) c.unzip_members_into_parts.new.jobs.items c.unzip_members_into_parts.new.owns.items
+    c.unzip_members_into_parts.new.purses.items
+    (all g d) c.unzip_members_into_parts.ensures.jobs c.unzip_members_into_parts.ensures.owns
+    c.unzip_members_into_parts.ensures.purses in
+    let are = members_count (ts g d) c.unzip_members_into_parts.new.jobs.items c.unzip_members_into_parts.new.owns.items
+    c.unzip_members_into_parts.new.purses.items then in
     omega (arith, are.1, count g d, (were g d).1, c.requires.hands.owns_count)
 
-pub settle_purses-requires-clause-purses : goal.settle_purses-requires-clause-purses
-settle_purses-requires-clause-purses g c =
-    let d = (goal.at.settle_purses-requires-clause-purses g c).After-work_all in
-    let then : AreOf (ts g d) c.split_members.new.jobs.items c.split_members.new.owns.items
-    c.split_members.new.purses.items =
-    made_of _ (ts g d) c.split_members.new.jobs.items c.split_members.new.owns.items c.split_members.new.purses.items
-    (all g d) c.split_members.ensures.jobs c.split_members.ensures.owns c.split_members.ensures.purses in
+pub return_steal_permissions_of_all-requires-clause-purses : goal.return_steal_permissions_of_all-requires-clause-purses
+return_steal_permissions_of_all-requires-clause-purses g c =
+    let d = (goal.at.return_steal_permissions_of_all-requires-clause-purses g c).After-run_members_in_threads in
+    let then : AreOf (ts g d) c.unzip_members_into_parts.new.jobs.items c.unzip_members_into_parts.new.owns.items
+    c.unzip_members_into_parts.new.purses.items =
+    made_of _ (ts g d) c.unzip_members_into_parts.new.jobs.items c.unzip_members_into_parts.new.owns.items
+    c.unzip_members_into_parts.new.purses.items
+    (all g d) c.unzip_members_into_parts.ensures.jobs c.unzip_members_into_parts.ensures.owns
+    c.unzip_members_into_parts.ensures.purses in
     purses_left (shared g d) g.J.Job.work g.J.Job.runs g.J.Job.spare (ss g d) (ts g d) c.args.jobs.now.items
-    c.split_members.new.jobs.items c.args.hands.owns.items c.split_members.new.owns.items c.args.hands.purses.items
-    c.split_members.new.purses.items (first g d) then (zip g d)
+    c.unzip_members_into_parts.new.jobs.items c.args.hands.owns.items c.unzip_members_into_parts.new.owns.items
+    c.args.hands.purses.items
+    c.unzip_members_into_parts.new.purses.items (first g d) then (zip g d)
 
-pub settle_purses-requires-clause-owns : goal.settle_purses-requires-clause-owns
-settle_purses-requires-clause-owns g c =
-    let d = (goal.at.settle_purses-requires-clause-owns g c).After-work_all in
-    let then : AreOf (ts g d) c.split_members.new.jobs.items c.split_members.new.owns.items
-    c.split_members.new.purses.items =
-    made_of _ (ts g d) c.split_members.new.jobs.items c.split_members.new.owns.items c.split_members.new.purses.items
-    (all g d) c.split_members.ensures.jobs c.split_members.ensures.owns c.split_members.ensures.purses in
-    let are = members_count (ts g d) c.split_members.new.jobs.items c.split_members.new.owns.items
-    c.split_members.new.purses.items then in
-    let out : length c.args.jobs.now.items ≡ length c.split_members.new.purses.items =
+pub return_steal_permissions_of_all-requires-clause-owns : goal.return_steal_permissions_of_all-requires-clause-owns
+return_steal_permissions_of_all-requires-clause-owns g c =
+    let d = (goal.at.return_steal_permissions_of_all-requires-clause-owns g c).After-run_members_in_threads in
+    let then : AreOf (ts g d) c.unzip_members_into_parts.new.jobs.items c.unzip_members_into_parts.new.owns.items
+    c.unzip_members_into_parts.new.purses.items =
+    made_of _ (ts g d) c.unzip_members_into_parts.new.jobs.items c.unzip_members_into_parts.new.owns.items
+    c.unzip_members_into_parts.new.purses.items
+    (all g d) c.unzip_members_into_parts.ensures.jobs c.unzip_members_into_parts.ensures.owns
+    c.unzip_members_into_parts.ensures.purses in
+    let are = members_count (ts g d) c.unzip_members_into_parts.new.jobs.items c.unzip_members_into_parts.new.owns.items
+    c.unzip_members_into_parts.new.purses.items then in
+    let out : length c.args.jobs.now.items ≡ length c.unzip_members_into_parts.new.purses.items =
     omega (arith, are.2, count g d, (were g d).2, c.requires.hands.purses_count) in
     subst (λ k. Each (Stands (shared g d).thieves.items k) 0 (length (shared g d).thieves.items)
-    c.split_members.new.owns.items) out
+    c.unzip_members_into_parts.new.owns.items) out
     (owns_stand (shared g d) g.J.Job.work g.J.Job.runs g.J.Job.spare (ss g d) (ts g d) c.args.jobs.now.items
-    c.split_members.new.jobs.items c.args.hands.owns.items c.split_members.new.owns.items c.args.hands.purses.items
-    c.split_members.new.purses.items (first g d) then (zip g d) (length c.args.jobs.now.items)
+    c.unzip_members_into_parts.new.jobs.items c.args.hands.owns.items c.unzip_members_into_parts.new.owns.items
+    c.args.hands.purses.items
+    c.unzip_members_into_parts.new.purses.items (first g d) then (zip g d) (length c.args.jobs.now.items)
     (length (shared g d).thieves.items) c.requires.hands.owns_count c.requires.hands.owns)
 
-pub check_deques-requires : goal.check_deques-requires
-check_deques-requires g c =
+pub check_deque_counts-requires : goal.check_deque_counts-requires
+check_deque_counts-requires g c =
     record {
-      stands = subst (λ k. Each (Stands c.args.shared.now.thieves.items 0) 0 k c.settle_purses.new.owns.items)
-          (sym c.settle_purses.ensures.count) c.settle_purses.ensures.owns;
+      stands = subst (λ k. Each (Stands c.args.shared.now.thieves.items 0) 0 k
+          c.return_steal_permissions_of_all.new.owns.items)
+          (sym c.return_steal_permissions_of_all.ensures.count) c.return_steal_permissions_of_all.ensures.owns;
     }
 
 pub run_numbers_left-requires-clause-some : goal.run_numbers_left-requires-clause-some
 run_numbers_left-requires-clause-some g c =
-    let d = (goal.at.run_numbers_left-requires-clause-some g c).After-work_all in
-    let then : AreOf (ts g d) c.split_members.new.jobs.items c.split_members.new.owns.items
-    c.split_members.new.purses.items =
-    made_of _ (ts g d) c.split_members.new.jobs.items c.split_members.new.owns.items c.split_members.new.purses.items
-    (all g d) c.split_members.ensures.jobs c.split_members.ensures.owns c.split_members.ensures.purses in
-    let are = members_count (ts g d) c.split_members.new.jobs.items c.split_members.new.owns.items
-    c.split_members.new.purses.items then in
+    let d = (goal.at.run_numbers_left-requires-clause-some g c).After-run_members_in_threads in
+    let then : AreOf (ts g d) c.unzip_members_into_parts.new.jobs.items c.unzip_members_into_parts.new.owns.items
+    c.unzip_members_into_parts.new.purses.items =
+    made_of _ (ts g d) c.unzip_members_into_parts.new.jobs.items c.unzip_members_into_parts.new.owns.items
+    c.unzip_members_into_parts.new.purses.items
+    (all g d) c.unzip_members_into_parts.ensures.jobs c.unzip_members_into_parts.ensures.owns
+    c.unzip_members_into_parts.ensures.purses in
+    let are = members_count (ts g d) c.unzip_members_into_parts.new.jobs.items c.unzip_members_into_parts.new.owns.items
+    c.unzip_members_into_parts.new.purses.items then in
     omega (arith, are.0, count g d, (were g d).0, c.requires.jobs)
 
 pub run_numbers_left-requires-clause-ledger : goal.run_numbers_left-requires-clause-ledger
 run_numbers_left-requires-clause-ledger g c =
-    let d = (goal.at.run_numbers_left-requires-clause-ledger g c).After-work_all in
-    let then : AreOf (ts g d) c.split_members.new.jobs.items c.split_members.new.owns.items
-    c.split_members.new.purses.items =
-    made_of _ (ts g d) c.split_members.new.jobs.items c.split_members.new.owns.items c.split_members.new.purses.items
-    (all g d) c.split_members.ensures.jobs c.split_members.ensures.owns c.split_members.ensures.purses in (
+    let d = (goal.at.run_numbers_left-requires-clause-ledger g c).After-run_members_in_threads in
+    let then : AreOf (ts g d) c.unzip_members_into_parts.new.jobs.items c.unzip_members_into_parts.new.owns.items
+    c.unzip_members_into_parts.new.purses.items =
+    made_of _ (ts g d) c.unzip_members_into_parts.new.jobs.items c.unzip_members_into_parts.new.owns.items
+    c.unzip_members_into_parts.new.purses.items
+    (all g d) c.unzip_members_into_parts.ensures.jobs c.unzip_members_into_parts.ensures.owns
+    c.unzip_members_into_parts.ensures.purses in (
       c.args.jobs.now.items,
       ledger_begins (shared g d) g.J.Job.work g.J.Job.runs g.J.Job.spare (ss g d) (ts g d) c.args.jobs.now.items
-          c.split_members.new.jobs.items c.args.hands.owns.items c.split_members.new.owns.items
+          c.unzip_members_into_parts.new.jobs.items c.args.hands.owns.items c.unzip_members_into_parts.new.owns.items
           c.args.hands.purses.items
-          c.split_members.new.purses.items (first g d) then (zip g d) c.args.tasks c.settle_purses.new.owns.items
-          c.check_deques.new.owns.items (injector_view c.split_members.new.owner)
-          c.split_members.ensures.owner.2
-          (c.split_members.ensures.owner.3 ∙ (ap (λ (v : Account). v.put) c.make_members.ensures.owner.2 ∙
+          c.unzip_members_into_parts.new.purses.items (first g d) then (zip g d) c.args.tasks
+          c.return_steal_permissions_of_all.new.owns.items
+          c.check_deque_counts.new.owns.items (injector_view c.unzip_members_into_parts.new.owner)
+          c.unzip_members_into_parts.ensures.owner.2
+          (c.unzip_members_into_parts.ensures.owner.3 ∙ (ap (λ (v : Account). v.put) c.make_members.ensures.owner.2 ∙
           ap (λ (v : Account). v.put) c.requires.hands.account))
           (λ h. let taken : Account → ℕ = λ v. sum_of h v.taken in
           omega (
             arith,
-            c.split_members.ensures.books h,
+            c.unzip_members_into_parts.ensures.books h,
             ap (sum_of (source_taken h)) (all g d),
             ap taken c.make_members.ensures.owner.2,
             ap taken c.requires.hands.account,
@@ -224,32 +238,36 @@ run_numbers_left-requires-clause-ledger g c =
           c.make_members.ensures.members.1
           c.requires.hands.fresh
           c.requires.hands.idle
-          c.settle_purses.ensures.books
-          c.check_deques.ensures.books
-          c.check_deques.ensures.stands
-          c.check_deques.ensures.fits
+          c.return_steal_permissions_of_all.ensures.books
+          c.check_deque_counts.ensures.books
+          c.check_deque_counts.ensures.stands
+          c.check_deque_counts.ensures.fits
           c.requires.spare,
     )
 
 pub returns : goal.returns
 returns g c =
-    let d = (goal.at.returns g c).After-work_all in
-    let then : AreOf (ts g d) c.split_members.new.jobs.items c.split_members.new.owns.items
-    c.split_members.new.purses.items =
-    made_of _ (ts g d) c.split_members.new.jobs.items c.split_members.new.owns.items c.split_members.new.purses.items
-    (all g d) c.split_members.ensures.jobs c.split_members.ensures.owns c.split_members.ensures.purses in
+    let d = (goal.at.returns g c).After-run_members_in_threads in
+    let then : AreOf (ts g d) c.unzip_members_into_parts.new.jobs.items c.unzip_members_into_parts.new.owns.items
+    c.unzip_members_into_parts.new.purses.items =
+    made_of _ (ts g d) c.unzip_members_into_parts.new.jobs.items c.unzip_members_into_parts.new.owns.items
+    c.unzip_members_into_parts.new.purses.items
+    (all g d) c.unzip_members_into_parts.ensures.jobs c.unzip_members_into_parts.ensures.owns
+    c.unzip_members_into_parts.ensures.purses in
     c.run_numbers_left.ensures c.args.jobs.now.items
     (ledger_begins (shared g d) g.J.Job.work g.J.Job.runs g.J.Job.spare (ss g d) (ts g d) c.args.jobs.now.items
-    c.split_members.new.jobs.items c.args.hands.owns.items c.split_members.new.owns.items c.args.hands.purses.items
-    c.split_members.new.purses.items (first g d) then (zip g d) c.args.tasks c.settle_purses.new.owns.items
-    c.check_deques.new.owns.items (injector_view c.split_members.new.owner)
-    c.split_members.ensures.owner.2
-    (c.split_members.ensures.owner.3 ∙ (ap (λ (v : Account). v.put) c.make_members.ensures.owner.2 ∙
+    c.unzip_members_into_parts.new.jobs.items c.args.hands.owns.items c.unzip_members_into_parts.new.owns.items
+    c.args.hands.purses.items
+    c.unzip_members_into_parts.new.purses.items (first g d) then (zip g d) c.args.tasks
+    c.return_steal_permissions_of_all.new.owns.items
+    c.check_deque_counts.new.owns.items (injector_view c.unzip_members_into_parts.new.owner)
+    c.unzip_members_into_parts.ensures.owner.2
+    (c.unzip_members_into_parts.ensures.owner.3 ∙ (ap (λ (v : Account). v.put) c.make_members.ensures.owner.2 ∙
     ap (λ (v : Account). v.put) c.requires.hands.account))
     (λ h. let taken : Account → ℕ = λ v. sum_of h v.taken in
     omega (
       arith,
-      c.split_members.ensures.books h,
+      c.unzip_members_into_parts.ensures.books h,
       ap (sum_of (source_taken h)) (all g d),
       ap taken c.make_members.ensures.owner.2,
       ap taken c.requires.hands.account,
@@ -257,8 +275,8 @@ returns g c =
     c.make_members.ensures.members.1
     c.requires.hands.fresh
     c.requires.hands.idle
-    c.settle_purses.ensures.books
-    c.check_deques.ensures.books
-    c.check_deques.ensures.stands
-    c.check_deques.ensures.fits
+    c.return_steal_permissions_of_all.ensures.books
+    c.check_deque_counts.ensures.books
+    c.check_deque_counts.ensures.stands
+    c.check_deque_counts.ensures.fits
     c.requires.spare)

@@ -8,9 +8,9 @@ returns-in_default-clause-none g c =
     let u = c.args.unit.now in
     let rows = c.args.rows.now in
     let T = length c.args.prices.now.energy.items in
-    let told = rw c.len-periods.ensures at c.least_end.ensures.none in
+    let told = rw c.len-periods.ensures at c.least_cost_end_of_horizon.ensures.none in
     let none : (l : ℕ) (v : ℤ) → cost_at rows l ≡ Some v → IsOffRun (thermal_of u) l T → ⊥ =
-    elim (c.least_end.result) as (λ o. c.least_end.result ≡ o →
+    elim (c.least_cost_end_of_horizon.result) as (λ o. c.least_cost_end_of_horizon.result ≡ o →
     IfNone o ((l : ℕ) (v : ℤ) → cost_at rows l ≡ Some v → IsOffRun (thermal_of u) l T → ⊥) → (l : ℕ) (v : ℤ) →
     cost_at rows l ≡ Some v → IsOffRun (thermal_of u) l T → ⊥) [
       | None ↦ λ is h. h
@@ -25,11 +25,11 @@ write_best-requires-clause-end g c = rw c.len-periods.ensures at c.in-Some.ensur
 pub write_best-requires-clause-earliest : goal.write_best-requires-clause-earliest
 write_best-requires-clause-earliest g c = rw c.len-periods.ensures at c.in-Some.ensures.earliest
 
-pub least_end-requires-clause-periods : goal.least_end-requires-clause-periods
-least_end-requires-clause-periods g c = c.len-periods.ensures ∙ sym c.requires.horizon
+pub least_cost_end_of_horizon-requires-clause-periods : goal.least_cost_end_of_horizon-requires-clause-periods
+least_cost_end_of_horizon-requires-clause-periods g c = c.len-periods.ensures ∙ sym c.requires.horizon
 
-pub least_end-requires-clause-room : goal.least_end-requires-clause-room
-least_end-requires-clause-room g c =
+pub least_cost_end_of_horizon-requires-clause-room : goal.least_cost_end_of_horizon-requires-clause-room
+least_cost_end_of_horizon-requires-clause-room g c =
     let room = c.requires.room in
     let periods = c.len-periods.ensures in
     omega (arith, room, periods)

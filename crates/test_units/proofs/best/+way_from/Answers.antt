@@ -22,7 +22,7 @@ period g t c =
       unit = c.args.unit.now.valid;
       prices = c.args.prices.now.valid;
       curve = c.requires.curve;
-      law = c.envelope_is_cost.ensures;
+      law = c.envelope_is_within_cost_limit.ensures;
       within = omega (arith, until, end);
       from = first_from c.args.spell.now.started c.args.spell.now.first c.args.index c.requires.from;
       step_is = c.step_in-step.ensures.step;
@@ -79,7 +79,7 @@ stepped-requires-clause-curve g t c =
     let until = c.requires.until in
     let end = c.requires.spell.end in
     cost_is _ _ c.step_in-step.ensures.step c.args.unit.now.valid c.args.prices.now.valid (omega (arith, until, end))
-    c.requires.curve c.envelope_is_cost.ensures
+    c.requires.curve c.envelope_is_within_cost_limit.ensures
 
 pub stepped-requires-clause-small : goal.stepped-requires-clause-small
 stepped-requires-clause-small g t c =

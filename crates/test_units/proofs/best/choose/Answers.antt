@@ -3,20 +3,20 @@ use Rattle.test_units.proofs.Lemmas.{never_both, least_stored, none_stored, foun
 use Rattle.test_units.proofs.Lemmas.{chosen_stored}
 use Rattle.test_units.proofs.best.choose.Goals as goal
 
-pub write_best_reserve-requires-clause-before : goal.write_best_reserve-requires-clause-before
-write_best_reserve-requires-clause-before g c =
+pub write_period_with_best_reserve-requires-clause-before : goal.write_period_with_best_reserve-requires-clause-before
+write_period_with_best_reserve-requires-clause-before g c =
     let kinked = g.S.Shape.function c.add_kink.new.home c.add_kink.new.shape in
     let out = kinked_out c.args.step (g.S.Shape.function c.args.home.now c.args.before.now) kinked c.in-Some.power
     c.in-Some.field-0-0 c.requires.small c.in_ok-add_kink.ensures.ok c.in-Some.ensures.there in
     subst IsOutput (sym (output_stored out)) out
 
-pub write_best_reserve-requires-clause-power : goal.write_best_reserve-requires-clause-power
-write_best_reserve-requires-clause-power g c =
+pub write_period_with_best_reserve-requires-clause-power : goal.write_period_with_best_reserve-requires-clause-power
+write_period_with_best_reserve-requires-clause-power g c =
     let out = found_out c.args.step c.args.found.power c.requires.step c.requires.found in
     subst IsOutput (sym (output_stored out)) out
 
-pub write_best_reserve-requires-clause-rise : goal.write_best_reserve-requires-clause-rise
-write_best_reserve-requires-clause-rise g c =
+pub write_period_with_best_reserve-requires-clause-rise : goal.write_period_with_best_reserve-requires-clause-rise
+write_period_with_best_reserve-requires-clause-rise g c =
     let kinked = g.S.Shape.function c.add_kink.new.home c.add_kink.new.shape in
     let before = kinked_out c.args.step (g.S.Shape.function c.args.home.now c.args.before.now) kinked c.in-Some.power
     c.in-Some.field-0-0 c.requires.small c.in_ok-add_kink.ensures.ok c.in-Some.ensures.there in
@@ -33,7 +33,7 @@ returns-in-Some-clause-chosen g c =
     chosen_stored c.args.step (g.S.Shape.function c.args.home.now c.args.before.now)
     (g.S.Shape.function c.add_kink.new.home c.add_kink.new.shape) c.args.index c.args.found.power c.in-Some.power
     c.in-Some.field-0-0 _ _ c.requires.step c.requires.small
-    c.requires.found c.in_ok-add_kink.ensures.ok c.in-Some.ensures c.write_best_reserve.ensures.written
+    c.requires.found c.in_ok-add_kink.ensures.ok c.in-Some.ensures c.write_period_with_best_reserve.ensures.written
 
 pub returns-in-None-clause-chosen : goal.returns-in-None-clause-chosen
 returns-in-None-clause-chosen g c =

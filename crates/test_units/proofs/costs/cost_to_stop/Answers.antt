@@ -7,8 +7,9 @@ use Rattle.test_units.proofs.costs.cost_to_stop.Goals as goal
 pub cost_after-requires-clause-curve : goal.cost_after-requires-clause-curve
 cost_after-requires-clause-curve g c =
     let index = c.requires.index in
-    cost_is c.starts_at-starts.result true c.step_over_period.ensures.step c.args.unit.now.valid c.args.prices.now.valid
-    (omega (arith, index)) c.requires.curve c.envelope_is_cost.ensures
+    cost_is c.starts_at-starts.result true c.step_terms_of_period.ensures.step c.args.unit.now.valid
+    c.args.prices.now.valid
+    (omega (arith, index)) c.requires.curve c.envelope_is_within_cost_limit.ensures
 
 pub cost_after-requires-clause-small : goal.cost_after-requires-clause-small
 cost_after-requires-clause-small g c =
@@ -25,11 +26,12 @@ returns-clause-answer g c =
     let index = c.requires.index in
     let within : c.args.index < length prices.energy = omega (arith, index) in
     IfOk-weaker c.cost_after.result (λ (cost : Option ℤ). (after : Table) ×
-    IsStepped c.step_over_period.result c.args.curve.now before after × IsLeastCost after cost)
+    IsStepped c.step_terms_of_period.result c.args.curve.now before after × IsLeastCost after cost)
     (IsSpellCost unit prices first (suc c.args.index))
     (λ cost found.
-    answer_of_step c.args.unit.now.valid c.args.prices.now.valid c.requires.curve c.envelope_is_cost.ensures within
+    answer_of_step c.args.unit.now.valid c.args.prices.now.valid c.requires.curve
+    c.envelope_is_within_cost_limit.ensures within
     c.requires.order c.requires.frontier
     (sym (lt-ltb (suc c.args.index) (length prices.energy) index))
-    (rw (c.step_over_period.ensures.step, c.starts_at-starts.ensures) at found.1) cost found.2)
+    (rw (c.step_terms_of_period.ensures.step, c.starts_at-starts.ensures) at found.1) cost found.2)
     c.cost_after.ensures.ok

@@ -6,25 +6,26 @@ use Rattle.test_units.proofs.costs.pass.Goals as goal
 pub returns-then-index-len-clause-answer : goal.returns-then-index-len-clause-answer
 returns-then-index-len-clause-answer g c =
     let end : suc c.args.index ≡ length c.args.prices.now.energy.items = omega arith in
-    answer_at_end c.args.unit.now.valid c.args.prices.now.valid c.requires.curve c.envelope_is_cost.ensures
+    answer_at_end c.args.unit.now.valid c.args.prices.now.valid c.requires.curve c.envelope_is_within_cost_limit.ensures
     c.requires.index c.requires.order c.in_ok-run_on.ensures.ok end c.least_cost.result c.least_cost.ensures
 
-pub returns-then-differs_in_range_alone-clause-answer : goal.returns-then-differs_in_range_alone-clause-answer
-returns-then-differs_in_range_alone-clause-answer g c =
+pub returns-then-are_steps_same_but_for_power_range-clause-answer :
+    goal.returns-then-are_steps_same_but_for_power_range-clause-answer
+returns-then-are_steps_same_but_for_power_range-clause-answer g c =
     let unit = thermal_of c.args.unit.now in
     let prices = prices_of c.args.prices.now in
     let first = spell_first c.args.started c.args.first in
     let index = c.args.index in
     let before : suc index < length c.args.prices.now.energy.items = omega arith in
-    let after = g.S.Shape.function c.run_on-then-differs_in_range_alone.new.home
-    c.run_on-then-differs_in_range_alone.new.running in
+    let after = g.S.Shape.function c.run_on-then-are_steps_same_but_for_power_range.new.home
+    c.run_on-then-are_steps_same_but_for_power_range.new.running in
     let starts = c.starts_at-starts.result in
-    let alike = alike_of unit prices index c.step_over_period-last.ensures.step c.starts_at-starts.ensures
-    c.step_over_period-on.ensures.step c.if-differs_in_range_alone.ensures in
-    let least = range_of unit prices index starts (eqb first (suc index)) c.step_over_period-last.result
-    c.step_over_period-last.ensures.step c.starts_at-starts.ensures c.step_over_period-last.ensures.fair after
+    let alike = alike_of unit prices index c.step_terms_of_period-last.ensures.step c.starts_at-starts.ensures
+    c.step_terms_of_period-on.ensures.step c.if-are_steps_same_but_for_power_range.ensures in
+    let least = range_of unit prices index starts (eqb first (suc index)) c.step_terms_of_period-last.result
+    c.step_terms_of_period-last.ensures.step c.starts_at-starts.ensures c.step_terms_of_period-last.ensures.fair after
     c.least_cost_in.result c.least_cost_in.ensures in
-    answer_alike c.args.unit.now.valid c.args.prices.now.valid c.requires.curve c.envelope_is_cost.ensures
+    answer_alike c.args.unit.now.valid c.args.prices.now.valid c.requires.curve c.envelope_is_within_cost_limit.ensures
     c.requires.index c.requires.order c.in_ok-run_on-2.ensures.ok before alike c.least_cost_in.result least
 
 pub returns-in_err-cost-clause-frame : goal.returns-in_err-cost-clause-frame
@@ -57,8 +58,8 @@ returns-in_err-run_on-clause-sure g c = λ counts enough. absurd
 
 pub returns-in_err-run_on-2-clause-sure : goal.returns-in_err-run_on-2-clause-sure
 returns-in_err-run_on-2-clause-sure g c =
-    λ counts enough. absurd (never_both c.run_on-then-differs_in_range_alone.result _ c.in_err-run_on-2.was
-    (c.run_on-then-differs_in_range_alone.ensures.sure counts (omega (arith, enough))))
+    λ counts enough. absurd (never_both c.run_on-then-are_steps_same_but_for_power_range.result _ c.in_err-run_on-2.was
+    (c.run_on-then-are_steps_same_but_for_power_range.ensures.sure counts (omega (arith, enough))))
 
 pub returns-in_err-cost-clause-sure : goal.returns-in_err-cost-clause-sure
 returns-in_err-cost-clause-sure g c = λ counts enough. absurd

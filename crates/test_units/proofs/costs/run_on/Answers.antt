@@ -4,9 +4,9 @@ use Rattle.test_units.proofs.costs.run_on.Goals as goal
 
 pub take_step-requires-clause-curve : goal.take_step-requires-clause-curve
 take_step-requires-clause-curve g c =
-    cost_is c.starts_at-starts.result false c.step_over_period.ensures.step c.args.unit.now.valid
+    cost_is c.starts_at-starts.result false c.step_terms_of_period.ensures.step c.args.unit.now.valid
     c.args.prices.now.valid
-    c.requires.index c.requires.curve c.envelope_is_cost.ensures
+    c.requires.index c.requires.curve c.envelope_is_within_cost_limit.ensures
 
 pub take_step-requires-clause-small : goal.take_step-requires-clause-small
 take_step-requires-clause-small g c =
@@ -23,7 +23,7 @@ returns-clause-ok g c =
     let after = g.S.Shape.function c.take_step.new.home c.take_step.new.shape in
     on_ok_weaker {Q = IsFrontier unit prices first (suc c.args.index) after} _
     (λ step.
-    frontier_more c.args.unit.now.valid c.args.prices.now.valid c.requires.curve c.envelope_is_cost.ensures
+    frontier_more c.args.unit.now.valid c.args.prices.now.valid c.requires.curve c.envelope_is_within_cost_limit.ensures
     c.requires.index c.requires.order c.requires.frontier
-    (rw (c.step_over_period.ensures.step, c.starts_at-starts.ensures) at step))
+    (rw (c.step_terms_of_period.ensures.step, c.starts_at-starts.ensures) at step))
     c.take_step.ensures.ok

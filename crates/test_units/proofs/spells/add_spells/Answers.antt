@@ -13,8 +13,8 @@ sum_of_costs-requires-clause-b c =
     record { at_least = omega (arith, ints); at_most = omega (arith, ints) } in
     simp to_z-of_z r
 
-pub keep_lesser_end-requires-clause-bound : goal.keep_lesser_end-requires-clause-bound
-keep_lesser_end-requires-clause-bound c =
+pub write_row_if_no_dearer-requires-clause-bound : goal.write_row_if_no_dearer-requires-clause-bound
+write_row_if_no_dearer-requires-clause-bound c =
     let order : c.args.first ≤ c.loop-last.last = omega arith in
     let net = (c.net_of.ensures.some c.in-Some.net c.in-Some.is).0 in
     let within = c.requires.net_bound c.loop-last.last c.in-Some.net order (omega arith) net in
@@ -46,12 +46,14 @@ loop-last-preserved c =
           rw w.table-is (record {
             update = update_more u c.args.periods c.args.first c.args.entry.now.last c.args.entry.now.cost nets
                 c.args.table.now.items c.loop-last.last w.in-Some.net spell net.0
-                _ cost refl refl c.loop-last.table.items w.keep_lesser_end.new.table.items c.loop-last.invariant.update
-                w.keep_lesser_end.ensures.others w.keep_lesser_end.ensures.here w.keep_lesser_end.ensures.old
-                w.keep_lesser_end.ensures.added
-                w.keep_lesser_end.ensures.latest
-                w.keep_lesser_end.ensures.within;
-            length_is = w.keep_lesser_end.ensures.length ∙ length_is;
+                _ cost refl refl c.loop-last.table.items w.write_row_if_no_dearer.new.table.items
+                c.loop-last.invariant.update
+                w.write_row_if_no_dearer.ensures.others w.write_row_if_no_dearer.ensures.here
+                w.write_row_if_no_dearer.ensures.old
+                w.write_row_if_no_dearer.ensures.added
+                w.write_row_if_no_dearer.ensures.latest
+                w.write_row_if_no_dearer.ensures.within;
+            length_is = w.write_row_if_no_dearer.ensures.length ∙ length_is;
           })
       | in_default w ↦
           rw w.table-is (record {

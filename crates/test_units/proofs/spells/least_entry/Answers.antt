@@ -7,7 +7,8 @@ pub loop-last-init : goal.loop-last-init
 loop-last-init c = record {
   of_ways = record {
     sound = λ r is. cc;
-    complete = λ k v low way. (let from = c.off_from-last.ensures.no k way.2.off in absurd (omega (arith, low, from)));
+    complete = λ k v low way. (let from = c.earliest_allowed_last_on_period-last.ensures.no k way.2.off in absurd
+        (omega (arith, low, from)));
     inside = λ r is. cc;
     earliest = λ r is k low way. cc;
   };
@@ -17,7 +18,7 @@ loop-last-init c = record {
 pub loop-last-preserved : goal.loop-last-preserved
 loop-last-preserved c =
     one_more_way (thermal_of c.args.unit.now) (cost_at c.args.rows.now) c.args.before c.loop-last.last c.loop-last.least
-    c.lesser_entry-least.result c.entry_after.result
+    c.lesser_spell_entry-least.result c.entry_after.result
     c.loop-last.invariant c.entry_after.ensures.some c.entry_after.ensures.none
     (λ e is. (let w = if_some (IsWithinTimes (2 * c.loop-last.last + 3)) c.entry_after.result e is
     c.entry_after.ensures.bound in
@@ -27,9 +28,10 @@ loop-last-preserved c =
           omega (arith, ints, c.loop-last-test.true);
     }))
     (λ r is. if_some (λ (r : Entry). (c.loop-last.least ≡ Some r) ⊎
-    ((c.entry_after.result ≡ Some r.cost) × (r.last ≡ c.loop-last.last))) c.lesser_entry-least.result r is
-    c.lesser_entry-least.ensures.from)
-    c.lesser_entry-least.ensures.old c.lesser_entry-least.ensures.added c.lesser_entry-least.ensures.kept
+    ((c.entry_after.result ≡ Some r.cost) × (r.last ≡ c.loop-last.last))) c.lesser_spell_entry-least.result r is
+    c.lesser_spell_entry-least.ensures.from)
+    c.lesser_spell_entry-least.ensures.old c.lesser_spell_entry-least.ensures.added
+    c.lesser_spell_entry-least.ensures.kept
 
 pub returns-clause-some : goal.returns-clause-some
 returns-clause-some c =

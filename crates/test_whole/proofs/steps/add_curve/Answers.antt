@@ -43,7 +43,7 @@ add_curve-requires-clause-fits g c =
     let end = c.end.ensures in
     let e-shift : to_z w64 (of_z w64 c.args.shift) ≡ c.args.shift = to_z-of_z w64 _ c.ranges.shift in
     rw e-shift (CanAddCurve-fair c.args.curve.now c.requires.few fair c.requires.at c.requires.value
-    c.curves_have_values.ensures (g.S.Shape.function c.args.home.now c.args.s.now) c.args.shift
+    c.curve_has_value_at_each_power.ensures (g.S.Shape.function c.args.home.now c.args.s.now) c.args.shift
     (c.if-not-is_small.ensures refl) c.requires.shift
     (λ x from to. (c.if-not-before.ensures refl) x (omega (arith, ints)) (omega (arith, ints)))
     (λ x from to. (c.if-not-after.ensures refl) x (omega (arith, ints)) (omega (arith, ints))))

@@ -9,8 +9,8 @@ returns-then-power-ge0 c =
     let le : pos 0 ≤ℤ (c.args.d.exponent +ℤ pos c.args.scale) = grind (arith, ints, c.if-power-ge0.true) in
     let is : c.unsigned_abs-places.result ≡ unsigned_abs (c.args.d.exponent +ℤ pos c.args.scale) =
     omega (arith, ints, c.unsigned_abs-places.ensures.value) in
-    subst (λ (n : ℕ). SomeIff c.raised_digits.result (n ≤ c.args.limit) n)
-    (sym (size_right c.args.d c.args.scale c.unsigned_abs-places.result le is)) c.raised_digits.ensures
+    subst (λ (n : ℕ). SomeIff c.digits_times_power_of_ten.result (n ≤ c.args.limit) n)
+    (sym (size_right c.args.d c.args.scale c.unsigned_abs-places.result le is)) c.digits_times_power_of_ten.ensures
 
 pub returns-else-power-ge0 : goal.returns-else-power-ge0
 returns-else-power-ge0 c =
@@ -18,5 +18,5 @@ returns-else-power-ge0 c =
     let lt : (c.args.d.exponent +ℤ pos c.args.scale) <ℤ pos 0 = grind (arith, ints, c.if-power-ge0.false) in
     let is : c.unsigned_abs-places.result ≡ unsigned_abs (c.args.d.exponent +ℤ pos c.args.scale) =
     omega (arith, ints, c.unsigned_abs-places.ensures.value) in
-    subst (λ (n : ℕ). SomeIff c.lowered_digits.result (n ≤ c.args.limit) n)
-    (sym (size_left c.args.d c.args.scale c.unsigned_abs-places.result lt is)) c.lowered_digits.ensures
+    subst (λ (n : ℕ). SomeIff c.digits_divided_by_power_of_ten.result (n ≤ c.args.limit) n)
+    (sym (size_left c.args.d c.args.scale c.unsigned_abs-places.result lt is)) c.digits_divided_by_power_of_ten.ensures

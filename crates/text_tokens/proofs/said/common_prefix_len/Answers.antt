@@ -10,7 +10,7 @@ loop-i-preserved c =
     let within : i < length bytes = omega (arith, c.if-bytes-i.false) in
     let same = c.if-bytes-i-2.false in
     let plain : is_plain (get_or bytes i 0) ≡ true =
-    ap is_plain same ∙ sym c.is_plain.ensures ∙ c.if-not-is_plain.false in
+    ap is_plain same ∙ sym c.is_unescaped_byte.ensures ∙ c.if-not-is_unescaped_byte.false in
     record {
       same = same_one text bytes i c.loop-i-test.true within (sym same) c.loop-i.invariant.same;
       front = passes_one bytes i within plain c.loop-i.invariant.front;

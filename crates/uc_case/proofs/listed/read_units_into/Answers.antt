@@ -7,10 +7,10 @@ pub returns-in_err-unit-clause-value : goal.returns-in_err-unit-clause-value
 returns-in_err-unit-clause-value g c =
     let p = err_from_is_err_and c.from_residual.result c.from_residual.ensures.1 in
     rw (p.1, p.2) (member_ends c.in_err-unit.field-0.0 (g.N.Listed.reading c.args.periods) g.N.Listed.plain_of
-    c.args.at.field c.args.at.kind c.unit_site-site.result c.args.members.now c.loop-member.member-index
+    c.args.at.field c.args.at.kind c.fault_site_of_unit-site.result c.args.members.now c.loop-member.member-index
     c.member-item.result c.loop-member.list.items c.len.result
     (each_member c.args.at.field c.args.at.kind (g.N.Listed.reading c.args.periods) (member_views c.args.members.now))
-    c.loop-member-test.true c.member-item.is c.unit_site-site.ensures c.len.ensures c.in_err-unit.ensures.value
+    c.loop-member-test.true c.member-item.is c.fault_site_of_unit-site.ensures c.len.ensures c.in_err-unit.ensures.value
     c.loop-member.invariant.so_far)
 
 pub loop-member-preserved : goal.loop-member-preserved
@@ -22,10 +22,11 @@ loop-member-preserved g c = record {
       (All-push (λ n. g.N.Listed.Keeps c.args.periods n) (map g.N.Listed.plain_of c.loop-member.list.items)
       (g.N.Listed.plain_of c.in_ok-unit.unit) c.loop-member.invariant.fits c.in_ok-unit.ensures.fits);
   so_far = rw c.push.ensures.items (member_goes_on (g.N.Listed.reading c.args.periods) g.N.Listed.plain_of
-      c.args.at.field c.args.at.kind c.unit_site-site.result c.args.members.now c.loop-member.member-index
+      c.args.at.field c.args.at.kind c.fault_site_of_unit-site.result c.args.members.now c.loop-member.member-index
       c.member-item.result c.loop-member.list.items c.len.result c.in_ok-unit.unit
       (each_member c.args.at.field c.args.at.kind (g.N.Listed.reading c.args.periods) (member_views c.args.members.now))
-      c.loop-member-test.true c.member-item.is c.unit_site-site.ensures c.len.ensures c.in_ok-unit.ensures.value
+      c.loop-member-test.true c.member-item.is c.fault_site_of_unit-site.ensures c.len.ensures
+      c.in_ok-unit.ensures.value
       c.loop-member.invariant.so_far);
 }
 

@@ -6,15 +6,17 @@ use Rattle.uc_mixture.proofs.Shapes.{zipped}
 use Rattle.uc_mixture.proofs.Steps.{units_unknown, units_fail, mixture_read}
 use Rattle.uc_mixture.proofs.mixtures.mixture_of_json_tree.Goals as goal
 
-pub returns-in_err-check_units-clause-value : goal.returns-in_err-check_units-clause-value
-returns-in_err-check_units-clause-value c =
+pub returns-in_err-check_unit_names_of_mixture-clause-value :
+    goal.returns-in_err-check_unit_names_of_mixture-clause-value
+returns-in_err-check_unit_names_of_mixture-clause-value c =
     let m = market_of c.args.case.now in
     let h = head_of c.in_ok-head.head in
     let fails = rw (c.as_slice-units.ensures, ← thermal_named c.args.case.now.thermal.items) at
-    c.in_err-check_units.ensures in
-    let p = err_from_is_err_and c.from_residual-in_err-check_units.result
-    c.from_residual-in_err-check_units.ensures.1 in
-    rw (p.1, p.2) (units_unknown m (view c.args.root) h c.in_ok-head.ensures.value c.in_err-check_units.field-0.0 fails)
+    c.in_err-check_unit_names_of_mixture.ensures in
+    let p = err_from_is_err_and c.from_residual-in_err-check_unit_names_of_mixture.result
+    c.from_residual-in_err-check_unit_names_of_mixture.ensures.1 in
+    rw (p.1, p.2) (units_unknown m (view c.args.root) h c.in_ok-head.ensures.value
+    c.in_err-check_unit_names_of_mixture.field-0.0 fails)
 
 pub returns-in_err-thermal-clause-value : goal.returns-in_err-thermal-clause-value
 returns-in_err-thermal-clause-value c =
@@ -23,7 +25,7 @@ returns-in_err-thermal-clause-value c =
     let fits : FitsSigned w64 c.in_ok-head.head.whole = search rules in
     let same = to_z-of_z w64 c.in_ok-head.head.whole fits in
     let known = rw (c.as_slice-units.ensures, ← thermal_named c.args.case.now.thermal.items) at
-    c.in_ok-check_units.ensures in
+    c.in_ok-check_unit_names_of_mixture.ensures in
     let fails = rw (same, c.as_slice-units.ensures, ← thermal_named c.args.case.now.thermal.items) at
     c.in_err-thermal.ensures.value in
     let p = err_from_is_err_and c.from_residual-in_err-thermal.result c.from_residual-in_err-thermal.ensures.1 in
@@ -36,7 +38,7 @@ returns-clause-value c =
     let fits : FitsSigned w64 c.in_ok-head.head.whole = search rules in
     let same = to_z-of_z w64 c.in_ok-head.head.whole fits in
     let known = rw (c.as_slice-units.ensures, ← thermal_named c.args.case.now.thermal.items) at
-    c.in_ok-check_units.ensures in
+    c.in_ok-check_unit_names_of_mixture.ensures in
     let read = rw (same, c.as_slice-units.ensures, ← thermal_named c.args.case.now.thermal.items) at
     c.in_ok-thermal.ensures.value in
     rw same (mixture_read m (view c.args.root) h c.in_ok-head.ensures.value known

@@ -19,9 +19,11 @@ loop-unit-init c = record {
 pub returns-in_err-entries-clause-value : goal.returns-in_err-entries-clause-value
 returns-in_err-entries-clause-value c =
     let p = err_from_is_err_and c.from_residual-in_err-entries.result c.from_residual-in_err-entries.ensures.1 in
-    rw (p.1, p.2) (unit_ends c.in_err-entries.field-0.0 c.args.frame (members_in c.args.object) c.of_unit-at.result
+    rw (p.1, p.2) (unit_ends c.in_err-entries.field-0.0 c.args.frame (members_in c.args.object)
+    c.fault_site_of_thermal_unit-at.result
     c.args.units.now c.loop-unit.unit-index c.unit-item.result c.as_str.result.now c.loop-unit.lists.items
-    c.len.result c.loop-unit-test.true c.unit-item.is c.of_unit-at.ensures c.len.ensures c.as_str.ensures
+    c.len.result c.loop-unit-test.true c.unit-item.is c.fault_site_of_thermal_unit-at.ensures c.len.ensures
+    c.as_str.ensures
     (c.in_err-entries.ensures.value (members_in c.args.object) c.in_ok-values.ensures) c.loop-unit.invariant.so_far)
 
 pub loop-unit-preserved : goal.loop-unit-preserved
@@ -33,9 +35,11 @@ loop-unit-preserved c = record {
       (All-push (λ (es : List WeighedSchedule). AreEntries c.args.frame.periods c.args.frame.whole es)
       (map entries_of c.loop-unit.lists.items) (entries_of c.in_ok-entries.entries) c.loop-unit.invariant.fits
       c.in_ok-entries.ensures.fits);
-  so_far = rw c.push.ensures.items (unit_goes_on c.args.frame (members_in c.args.object) c.of_unit-at.result
+  so_far = rw c.push.ensures.items (unit_goes_on c.args.frame (members_in c.args.object)
+      c.fault_site_of_thermal_unit-at.result
       c.args.units.now c.loop-unit.unit-index c.unit-item.result c.as_str.result.now c.loop-unit.lists.items
-      c.len.result c.in_ok-entries.entries c.loop-unit-test.true c.unit-item.is c.of_unit-at.ensures c.len.ensures
+      c.len.result c.in_ok-entries.entries c.loop-unit-test.true c.unit-item.is c.fault_site_of_thermal_unit-at.ensures
+      c.len.ensures
       c.as_str.ensures (c.in_ok-entries.ensures.value (members_in c.args.object) c.in_ok-values.ensures)
       c.loop-unit.invariant.so_far);
 }

@@ -31,7 +31,7 @@ returns c =
     let t = c.args.task.now in
     let energy = ap (λ (xs : List ℤ). length xs) c.as_slice-energy.ensures in
     let reserve = ap (λ (xs : List ℤ). length xs) c.as_slice-reserve.ensures in
-    c.unit_number.ensures
+    c.flattened_task_unit_number_at.ensures
     ∙ sym (task_numbers-unit (prices_of t.prices) (task_unit t) c.args.place
     (c.args.place - length c.as_slice-energy.result.now - length c.as_slice-reserve.result.now - 1)
     (omega (arith, c.if-place-energy-2.false, energy, reserve)))

@@ -77,18 +77,20 @@ read_items-items-preserved t c =
     let here = c.next-behind.ensures.same ∙ c.in_ok-read_value.ensures.same ∙ c.items.invariant.same in
     let one = subst (λ (bs : List ℕ). Adds bs c.items.nodes.items c.read_value.new.nodes.items (r.0 ∷ []))
     c.items.invariant.same r.2 in
-    let others = subst (λ (bs : List ℕ). Adds bs c.read_value.new.nodes.items c.pass_numbers.new.nodes.items more.0)
+    let others = subst (λ (bs : List ℕ). Adds bs c.read_value.new.nodes.items c.read_short_numbers.new.nodes.items
+    more.0)
     here
     more.2 in
     record {
       inside = (
         vs ++ more.0,
-        read_first c.args.left (rest c.args.reader.now) (vs ++ more.0) (rest c.pass_numbers.new.reader)
+        read_first c.args.left (rest c.args.reader.now) (vs ++ more.0) (rest c.read_short_numbers.new.reader)
             (seen c.next-first-in-Comma.result) (rest c.next-first-in-Comma.new.self)
             (more.3 c.args.left (rest c.args.reader.now) vs at) c.next-first-in-Comma.ensures.next
             (some_items i.0 r.0 more.0),
         omega (arith, i.2, more.1, length-append i.0 (r.0 ∷ []), length-append vs more.0),
-        adds_then bytes c.args.nodes.now.items c.read_value.new.nodes.items c.pass_numbers.new.nodes.items vs more.0
+        adds_then bytes c.args.nodes.now.items c.read_value.new.nodes.items c.read_short_numbers.new.nodes.items vs
+            more.0
             (adds_then bytes c.args.nodes.now.items c.items.nodes.items c.read_value.new.nodes.items i.0 (r.0 ∷ [])
             i.3 one)
             others,
@@ -166,8 +168,9 @@ read_items-returns-in_default-token t c =
 
 -- ---- members
 
-pub noted_members-returns-in-CloseObject-clause-ok : goal.noted_members-returns-in-CloseObject-clause-ok
-noted_members-returns-in-CloseObject-clause-ok t c = (
+pub read_members_and_note_names-returns-in-CloseObject-clause-ok :
+    goal.read_members_and_note_names-returns-in-CloseObject-clause-ok
+read_members_and_note_names-returns-in-CloseObject-clause-ok t c = (
   [],
   refl,
   ap names_said c.requires.none,
@@ -176,13 +179,14 @@ noted_members-returns-in-CloseObject-clause-ok t c = (
   adds_none c.args.reader.now.bytes.now c.args.nodes.now.items,
 )
 
-pub noted_members-returns-in-CloseObject-clause-doubles : goal.noted_members-returns-in-CloseObject-clause-doubles
-noted_members-returns-in-CloseObject-clause-doubles t c =
+pub read_members_and_note_names-returns-in-CloseObject-clause-doubles :
+    goal.read_members_and_note_names-returns-in-CloseObject-clause-doubles
+read_members_and_note_names-returns-in-CloseObject-clause-doubles t c =
     subst (DoublesStop c.args.left (rest c.args.reader.now)) (sym c.requires.none)
     (doubles_none c.args.left (rest c.args.reader.now))
 
-pub noted_members-members-init : goal.noted_members-members-init
-noted_members-members-init t c = record {
+pub read_members_and_note_names-members-init : goal.read_members_and_note_names-members-init
+read_members_and_note_names-members-init t c = record {
   inside = (
     [],
     λ _. members_begin c.args.left (rest c.args.reader.now) (seen c.next-first.result) (rest c.next-first.new.self)
@@ -201,8 +205,8 @@ noted_members-members-init t c = record {
   room = c.requires.left;
 }
 
-pub noted_members-returns-in_default-token : goal.noted_members-returns-in_default-token
-noted_members-returns-in_default-token t c =
+pub read_members_and_note_names-returns-in_default-token : goal.read_members_and_note_names-returns-in_default-token
+read_members_and_note_names-returns-in_default-token t c =
     let i = c.members.invariant.inside in
     record {
       ok = tt;
@@ -218,16 +222,17 @@ noted_members-returns-in_default-token t c =
       same = tt;
     }
 
-pub noted_members-returns-in_err-push-2-clause-doubles : goal.noted_members-returns-in_err-push-2-clause-doubles
-noted_members-returns-in_err-push-2-clause-doubles t c =
+pub read_members_and_note_names-returns-in_err-push-2-clause-doubles :
+    goal.read_members_and_note_names-returns-in_err-push-2-clause-doubles
+read_members_and_note_names-returns-in_err-push-2-clause-doubles t c =
     let i = c.members.invariant.inside in
     let k = said c.in-Text.quoted.bytes.now in
     doubles_push c.args.left (rest c.args.reader.now) c.members.names.items c.push.new.self.items _ i.0
     (seen c.members.first) (rest c.members.reader) k c.in_ok-push.ensures.items c.members.invariant.room
     c.members.invariant.doubles i.4 i.1 (ap token_of c.in-Text.is) refl refl
 
-pub noted_members-returns-in_default-token-2 : goal.noted_members-returns-in_default-token-2
-noted_members-returns-in_default-token-2 t c =
+pub read_members_and_note_names-returns-in_default-token-2 : goal.read_members_and_note_names-returns-in_default-token-2
+read_members_and_note_names-returns-in_default-token-2 t c =
     let i = c.members.invariant.inside in
     let k = said c.in-Text.quoted.bytes.now in
     let pushed = after_push c.members.names.items c.push.new.self.items _ i.0 k c.in_ok-push.ensures.items i.4 refl
@@ -252,8 +257,8 @@ noted_members-returns-in_default-token-2 t c =
       same = tt;
     }
 
-pub noted_members-returns-in_err-read_value : goal.noted_members-returns-in_err-read_value
-noted_members-returns-in_err-read_value t c =
+pub read_members_and_note_names-returns-in_err-read_value : goal.read_members_and_note_names-returns-in_err-read_value
+read_members_and_note_names-returns-in_err-read_value t c =
     let q = err_from_is_err_and c.from_residual-in_err-read_value.result c.from_residual-in_err-read_value.ensures.1 in
     let i = c.members.invariant.inside in
     let k = said c.in-Text.quoted.bytes.now in
@@ -277,8 +282,8 @@ noted_members-returns-in_err-read_value t c =
       same = tt;
     })
 
-pub noted_members-members-preserved : goal.noted_members-members-preserved
-noted_members-members-preserved t c =
+pub read_members_and_note_names-members-preserved : goal.read_members_and_note_names-members-preserved
+read_members_and_note_names-members-preserved t c =
     let i = c.members.invariant.inside in
     let k = said c.in-Text.quoted.bytes.now in
     let pushed = after_push c.members.names.items c.push.new.self.items _ i.0 k c.in_ok-push.ensures.items i.4 refl
@@ -350,8 +355,9 @@ noted_members-members-preserved t c =
       room = c.members.invariant.room;
     }
 
-pub noted_members-returns-in-CloseObject-token : goal.noted_members-returns-in-CloseObject-token
-noted_members-returns-in-CloseObject-token t c =
+pub read_members_and_note_names-returns-in-CloseObject-token :
+    goal.read_members_and_note_names-returns-in-CloseObject-token
+read_members_and_note_names-returns-in-CloseObject-token t c =
     let i = c.members.invariant.inside in
     let k = said c.in-Text.quoted.bytes.now in
     let pushed = after_push c.members.names.items c.push.new.self.items _ i.0 k c.in_ok-push.ensures.items i.4 refl
@@ -416,8 +422,8 @@ noted_members-returns-in-CloseObject-token t c =
       same = behind;
     }
 
-pub noted_members-returns-in_default-token-3 : goal.noted_members-returns-in_default-token-3
-noted_members-returns-in_default-token-3 t c =
+pub read_members_and_note_names-returns-in_default-token-3 : goal.read_members_and_note_names-returns-in_default-token-3
+read_members_and_note_names-returns-in_default-token-3 t c =
     let i = c.members.invariant.inside in
     let k = said c.in-Text.quoted.bytes.now in
     let pushed = after_push c.members.names.items c.push.new.self.items _ i.0 k c.in_ok-push.ensures.items i.4 refl
@@ -448,14 +454,15 @@ noted_members-returns-in_default-token-3 t c =
 
 pub read_members-returns-clause-fault : goal.read_members-returns-clause-fault
 read_members-returns-clause-fault t c =
-    let ns = c.noted_members-read.new.names.items in
+    let ns = c.read_members_and_note_names-read.new.names.items in
     let double = c.in_ok-double.double in
     let told : IsFirst (names_said c.deref.result.now) double = c.in_ok-double.ensures in
     let first : IsFirst (names_said ns) double =
     subst (λ (ms : List Name). IsFirst (names_said ms) double) c.deref.ensures.value told in
     let different = all_different ns (names_said ns) double refl
-    (omega (arith, c.if-double-len.false, c.len.ensures, c.noted_members-read.new.names.ok.0)) first in
-    if_fault_then c.noted_members-read.result _ _ (λ f s. s different) c.noted_members-read.ensures.fault
+    (omega (arith, c.if-double-len.false, c.len.ensures, c.read_members_and_note_names-read.new.names.ok.0)) first in
+    if_fault_then c.read_members_and_note_names-read.result _ _ (λ f s. s different)
+    c.read_members_and_note_names-read.ensures.fault
 
 -- ---- a value
 
@@ -495,16 +502,16 @@ pub read_value-returns-in_ok-count-in-OpenList-clause-ok : goal.read_value-retur
 read_value-returns-in_ok-count-in-OpenList-clause-ok t c = λ ts n.
     let bytes = c.args.reader.now.bytes.now in
     let r = c.in_ok-count-in-OpenList.ensures.ok in
-    let parts = c.parts_of.result in
+    let parts = c.parts_of_list_or_object.result in
     let all : parts.nodes + (c.len-at.result + 1) ≡ length c.read_items.new.nodes.items =
-    omega (arith, c.parts_of.ensures.nodes, c.len.ensures, c.read_items.new.nodes.ok.0) in (
+    omega (arith, c.parts_of_list_or_object.ensures.nodes, c.len.ensures, c.read_items.new.nodes.ok.0) in (
       list (items_of r.0),
       first.reads_list c.args.left ts (seen c.args.first) (rest c.args.reader.now) r.0 (rest c.read_items.new.reader)
           (omega (arith, c.if-left-eq0.false)) n (ap token_of c.in-OpenList.is) r.2,
       adds_anew bytes c.args.nodes.now.items c.push-in-OpenList.new.self.items c.read_items.new.nodes.items _ NullNode
           (ListNode parts) r.0 (list (items_of r.0)) c.len-at.result c.in_ok-push-in-OpenList.ensures.items
           (omega (arith, c.len-at.ensures, c.args.nodes.now.ok.0)) refl
-          all (says_list parts.count r.0 (c.parts_of.ensures.count ∙ r.1)) r.3,
+          all (says_list parts.count r.0 (c.parts_of_list_or_object.ensures.count ∙ r.1)) r.3,
     )
 
 pub read_value-returns-in_ok-count-in-OpenList-clause-fewer :
@@ -514,18 +521,18 @@ read_value-returns-in_ok-count-in-OpenList-clause-fewer t c =
       arith,
       c.in_ok-count-in-OpenList.ensures.fewer,
       one_node c.args.nodes.now.items c.push-in-OpenList.new.self.items _ c.in_ok-push-in-OpenList.ensures.items,
-      length-set c.read_items.new.nodes.items c.len-at.result (ListNode c.parts_of.result),
+      length-set c.read_items.new.nodes.items c.len-at.result (ListNode c.parts_of_list_or_object.result),
     )
 
 pub read_value-returns-in_ok-count-in-OpenObject-clause-ok : goal.read_value-returns-in_ok-count-in-OpenObject-clause-ok
 read_value-returns-in_ok-count-in-OpenObject-clause-ok t c = λ ts n.
     let bytes = c.args.reader.now.bytes.now in
     let r = c.in_ok-count-in-OpenObject.ensures.ok in
-    let parts = c.parts_of-in-OpenObject.result in
+    let parts = c.parts_of_list_or_object-in-OpenObject.result in
     let all : parts.nodes + (c.len-at-in-OpenObject.result + 1) ≡ length c.read_members.new.nodes.items =
     omega (
       arith,
-      c.parts_of-in-OpenObject.ensures.nodes,
+      c.parts_of_list_or_object-in-OpenObject.ensures.nodes,
       c.len-in-OpenObject.ensures,
       c.read_members.new.nodes.ok.0,
     ) in (
@@ -538,7 +545,7 @@ read_value-returns-in_ok-count-in-OpenObject-clause-ok t c = λ ts n.
           (ObjectNode parts) (in_turn r.0) (object (members_of r.0)) c.len-at-in-OpenObject.result
           c.in_ok-push-in-OpenObject.ensures.items
           (omega (arith, c.len-at-in-OpenObject.ensures, c.args.nodes.now.ok.0)) refl
-          all (says_object parts.count r.0 (c.parts_of-in-OpenObject.ensures.count ∙ r.1)) r.3,
+          all (says_object parts.count r.0 (c.parts_of_list_or_object-in-OpenObject.ensures.count ∙ r.1)) r.3,
     )
 
 pub read_value-returns-in_ok-count-in-OpenObject-clause-fewer :
@@ -549,7 +556,7 @@ read_value-returns-in_ok-count-in-OpenObject-clause-fewer t c =
       c.in_ok-count-in-OpenObject.ensures.fewer,
       one_node c.args.nodes.now.items c.push-in-OpenObject.new.self.items _ c.in_ok-push-in-OpenObject.ensures.items,
       length-set c.read_members.new.nodes.items c.len-at-in-OpenObject.result
-          (ObjectNode c.parts_of-in-OpenObject.result),
+          (ObjectNode c.parts_of_list_or_object-in-OpenObject.result),
     )
 
 pub read_value-returns-in_ok-push-in-Word-clause-fewer : goal.read_value-returns-in_ok-push-in-Word-clause-fewer

@@ -9,8 +9,8 @@ decreases-read_items l = 3 * l.left
 abbrev pub decreases-read_members : goal.decreases-read_members
 decreases-read_members l = 3 * l.left + 1
 
-abbrev pub decreases-noted_members : goal.decreases-noted_members
-decreases-noted_members l = 3 * l.left
+abbrev pub decreases-read_members_and_note_names : goal.decreases-read_members_and_note_names
+decreases-read_members_and_note_names l = 3 * l.left
 
 abbrev pub decreases-read_value : goal.decreases-read_value
 decreases-read_value l = 3 * l.left + 2
@@ -29,8 +29,8 @@ invariant-read_items-items l = record {
 abbrev pub decreases-read_items-items : goal.decreases-read_items-items
 decreases-read_items-items l = ahead l.reader
 
-abbrev pub invariant-noted_members-members : goal.invariant-noted_members-members
-invariant-noted_members-members l = record {
+abbrev pub invariant-read_members_and_note_names-members : goal.invariant-read_members_and_note_names-members
+invariant-read_members_and_note_names-members l = record {
   inside : (ps : List Pair) × (AreDifferent (names ps) →
       InMembers l.left (rest l.fn.reader) ps (seen l.first) (rest l.reader)) × (l.count ≡ length ps)
       × Adds l.fn.reader.bytes.now l.fn.nodes.items l.nodes.items (in_turn ps) × (names_said l.names.items ≡ names ps);
@@ -42,5 +42,5 @@ invariant-noted_members-members l = record {
   room : 0 < l.left;
 }
 
-abbrev pub decreases-noted_members-members : goal.decreases-noted_members-members
-decreases-noted_members-members l = ahead l.reader
+abbrev pub decreases-read_members_and_note_names-members : goal.decreases-read_members_and_note_names-members
+decreases-read_members_and_note_names-members l = ahead l.reader

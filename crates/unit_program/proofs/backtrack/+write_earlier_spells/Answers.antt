@@ -8,14 +8,16 @@ pub returns-then-is_all_off-clause-written : goal.returns-then-is_all_off-clause
 returns-then-is_all_off-clause-written t c =
     let u = c.args.unit.now in
     let h = c.is_all_off.ensures.yes c.if-is_all_off.true in
-    back_off_within c.limits_keep_rows.ensures.rows c.limits_keep_rows.ensures.starts (thermal_of u)
+    back_off_within c.rows_within_cost_limits_are_kept.ensures.rows c.rows_within_cost_limits_are_kept.ensures.starts
+    (thermal_of u)
     (prices_of c.args.prices.now) u.valid c.start_costs_are_within.ensures c.args.rows.now c.args.last
     c.requires.last c.requires.within (schedule_of c.args.into.now.response) h.0 h.1
 
 pub write_spell_dispatch-requires-clause-order : goal.write_spell_dispatch-requires-clause-order
 write_spell_dispatch-requires-clause-order t c =
     let u = c.args.unit.now in
-    (row_back_within c.limits_keep_rows.ensures.rows c.limits_keep_rows.ensures.starts (thermal_of u)
+    (row_back_within c.rows_within_cost_limits_are_kept.ensures.rows c.rows_within_cost_limits_are_kept.ensures.starts
+    (thermal_of u)
     (prices_of c.args.prices.now) u.valid c.start_costs_are_within.ensures c.args.rows.now c.args.last
     c.requires.last c.requires.within c.in-Some.ended c.in-Some.is
     (c.is_all_off.ensures.no c.if-is_all_off.false)).order
@@ -23,7 +25,8 @@ write_spell_dispatch-requires-clause-order t c =
 pub returns-then-ended-eq0-clause-written : goal.returns-then-ended-eq0-clause-written
 returns-then-ended-eq0-clause-written t c =
     let u = c.args.unit.now in
-    (row_back_within c.limits_keep_rows.ensures.rows c.limits_keep_rows.ensures.starts (thermal_of u)
+    (row_back_within c.rows_within_cost_limits_are_kept.ensures.rows c.rows_within_cost_limits_are_kept.ensures.starts
+    (thermal_of u)
     (prices_of c.args.prices.now) u.valid c.start_costs_are_within.ensures c.args.rows.now c.args.last
     c.requires.last c.requires.within c.in-Some.ended c.in-Some.is
     (c.is_all_off.ensures.no c.if-is_all_off.false)).only
@@ -33,7 +36,8 @@ returns-then-ended-eq0-clause-written t c =
 pub write_earlier_spells-requires : goal.write_earlier_spells-requires
 write_earlier_spells-requires t c =
     let u = c.args.unit.now in
-    let r = row_back_within c.limits_keep_rows.ensures.rows c.limits_keep_rows.ensures.starts (thermal_of u)
+    let r = row_back_within c.rows_within_cost_limits_are_kept.ensures.rows
+    c.rows_within_cost_limits_are_kept.ensures.starts (thermal_of u)
     (prices_of c.args.prices.now) u.valid c.start_costs_are_within.ensures c.args.rows.now c.args.last
     c.requires.last c.requires.within c.in-Some.ended c.in-Some.is (c.is_all_off.ensures.no c.if-is_all_off.false)
     in
@@ -42,7 +46,8 @@ write_earlier_spells-requires t c =
     let idle = r.before_idle (schedule_of c.args.into.now.response)
     (schedule_of c.write_spell_dispatch.new.into.response) one
     c.write_spell_dispatch.ensures.written c.requires.idle in
-    let ended = before_within c.limits_keep_rows.ensures.rows c.limits_keep_rows.ensures.starts (thermal_of u)
+    let ended = before_within c.rows_within_cost_limits_are_kept.ensures.rows
+    c.rows_within_cost_limits_are_kept.ensures.starts (thermal_of u)
     (prices_of c.args.prices.now) u.valid c.start_costs_are_within.ensures c.args.rows.now c.args.last
     c.requires.last c.requires.within c.in-Some.ended c.in-Some.is (c.is_all_off.ensures.no c.if-is_all_off.false)
     one in
@@ -72,7 +77,8 @@ write_earlier_spells-requires t c =
 pub write_spell_dispatch-requires-clause-runners : goal.write_spell_dispatch-requires-clause-runners
 write_spell_dispatch-requires-clause-runners t c =
     let u = c.args.unit.now in
-    let r = row_back_within c.limits_keep_rows.ensures.rows c.limits_keep_rows.ensures.starts (thermal_of u)
+    let r = row_back_within c.rows_within_cost_limits_are_kept.ensures.rows
+    c.rows_within_cost_limits_are_kept.ensures.starts (thermal_of u)
     (prices_of c.args.prices.now) u.valid c.start_costs_are_within.ensures c.args.rows.now c.args.last
     c.requires.last c.requires.within c.in-Some.ended c.in-Some.is (c.is_all_off.ensures.no c.if-is_all_off.false)
     in
@@ -90,7 +96,8 @@ write_spell_dispatch-requires-clause-noted t c = λ one.
 pub returns-clause-written : goal.returns-clause-written
 returns-clause-written t c =
     let u = c.args.unit.now in
-    let r = row_back_within c.limits_keep_rows.ensures.rows c.limits_keep_rows.ensures.starts (thermal_of u)
+    let r = row_back_within c.rows_within_cost_limits_are_kept.ensures.rows
+    c.rows_within_cost_limits_are_kept.ensures.starts (thermal_of u)
     (prices_of c.args.prices.now) u.valid c.start_costs_are_within.ensures c.args.rows.now c.args.last
     c.requires.last c.requires.within c.in-Some.ended c.in-Some.is (c.is_all_off.ensures.no c.if-is_all_off.false)
     in

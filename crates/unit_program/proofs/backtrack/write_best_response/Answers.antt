@@ -26,10 +26,14 @@ returns-clause-least c =
     least_of (thermal_of u) (prices_of c.args.prices.now) T refl (capped at.filled.limits (cost_at c.args.rows.now))
     u.valid.ramp_up.at_least u.valid.ramp_down.at_least at.filled.table.complete c.args.end.now.last c.args.end.now.cost
     a b
-    (end_capped c.limits_keep_rows.ensures.rows (thermal_of u) (prices_of c.args.prices.now) at.most c.args.rows.now
-    at.filled c.limits_keep_rows.ensures.amount c.args.end.now.last c.args.end.now.cost at.low at.least at.earliest)
-    (end_earliest c.limits_keep_rows.ensures.rows (thermal_of u) (prices_of c.args.prices.now) at.most c.args.rows.now
-    at.filled c.limits_keep_rows.ensures.amount c.args.end.now.last c.args.end.now.cost at.low at.least at.earliest)
+    (end_capped c.rows_within_cost_limits_are_kept.ensures.rows (thermal_of u) (prices_of c.args.prices.now) at.most
+    c.args.rows.now
+    at.filled c.rows_within_cost_limits_are_kept.ensures.amount c.args.end.now.last
+    c.args.end.now.cost at.low at.least at.earliest)
+    (end_earliest c.rows_within_cost_limits_are_kept.ensures.rows (thermal_of u) (prices_of c.args.prices.now) at.most
+    c.args.rows.now
+    at.filled c.rows_within_cost_limits_are_kept.ensures.amount c.args.end.now.last
+    c.args.end.now.cost at.low at.least at.earliest)
     (cleared_idle (thermal_of u) a c.turn_all_off.ensures.off c.turn_all_off.ensures.power
     c.turn_all_off.ensures.reserve T)
     (back.up_to c.args.end.now.cost at.least.ended) (back.first c.args.end.now.cost at.least.ended) back.later
@@ -58,8 +62,10 @@ returns-clause-earned c =
     (capped at.filled.limits (cost_at c.args.rows.now))
     u.valid.ramp_up.at_least u.valid.ramp_down.at_least at.filled.table.complete c.args.end.now.last c.args.end.now.cost
     a b
-    (end_capped c.limits_keep_rows.ensures.rows (thermal_of u) (prices_of c.args.prices.now) at.most c.args.rows.now
-    at.filled c.limits_keep_rows.ensures.amount c.args.end.now.last c.args.end.now.cost at.low at.least at.earliest)
+    (end_capped c.rows_within_cost_limits_are_kept.ensures.rows (thermal_of u) (prices_of c.args.prices.now) at.most
+    c.args.rows.now
+    at.filled c.rows_within_cost_limits_are_kept.ensures.amount c.args.end.now.last
+    c.args.end.now.cost at.low at.least at.earliest)
     (cleared_idle (thermal_of u) a c.turn_all_off.ensures.off c.turn_all_off.ensures.power
     c.turn_all_off.ensures.reserve T)
     (back.up_to c.args.end.now.cost at.least.ended) back.later
@@ -77,8 +83,10 @@ write_earlier_spells-requires-clause-within c =
       filled = at.filled;
       value = c.args.end.now.cost;
       ended = at.least.ended;
-      low = end_low c.limits_keep_rows.ensures.rows (thermal_of c.args.unit.now) (prices_of c.args.prices.now) at.most
-          c.args.rows.now at.filled c.limits_keep_rows.ensures.amount c.args.end.now.last c.args.end.now.cost at.low
+      low = end_low c.rows_within_cost_limits_are_kept.ensures.rows (thermal_of c.args.unit.now)
+          (prices_of c.args.prices.now) at.most
+          c.args.rows.now at.filled c.rows_within_cost_limits_are_kept.ensures.amount c.args.end.now.last
+          c.args.end.now.cost at.low
           at.least at.earliest;
     }
 

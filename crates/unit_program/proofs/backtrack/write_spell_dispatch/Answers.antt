@@ -4,8 +4,9 @@ use Rattle.unit_program.proofs.Lemmas.{written_none, written_first}
 use Rattle.unit_program.proofs.NoteLaws.{end_within}
 use Rattle.unit_program.proofs.backtrack.write_spell_dispatch.Goals as goal
 
-pub write_spell-requires-clause-noted : goal.write_spell-requires-clause-noted
-write_spell-requires-clause-noted c =
+pub write_least_cost_dispatch_of_spell-requires-clause-noted :
+    goal.write_least_cost_dispatch_of_spell-requires-clause-noted
+write_least_cost_dispatch_of_spell-requires-clause-noted c =
     let one : 1 ≤ c.args.last = omega arith in
     let item = slice_get-get_or c.args.backtracks.runners.now c.args.first c.index-backtracks-first.result
     c.requires.runners in
@@ -13,13 +14,15 @@ write_spell-requires-clause-noted c =
     (ap (λ o. since c.args.first (left_of c.args.backtracks.log.now o)) item)
     (c.requires.noted one)
 
-pub write_spell-requires-clause-trace : goal.write_spell-requires-clause-trace
-write_spell-requires-clause-trace c =
+pub write_least_cost_dispatch_of_spell-requires-clause-trace :
+    goal.write_least_cost_dispatch_of_spell-requires-clause-trace
+write_least_cost_dispatch_of_spell-requires-clause-trace c =
     c.requires.traces c.args.first _
     (slice_get-get_or c.args.backtracks.runners.now c.args.first c.index-backtracks-first.result c.requires.runners)
 
-pub write_spell-requires-clause-room : goal.write_spell-requires-clause-room
-write_spell-requires-clause-room c =
+pub write_least_cost_dispatch_of_spell-requires-clause-room :
+    goal.write_least_cost_dispatch_of_spell-requires-clause-room
+write_least_cost_dispatch_of_spell-requires-clause-room c =
     let one : 1 ≤ c.args.last = omega arith in
     let item = slice_get-get_or c.args.backtracks.runners.now c.args.first c.index-backtracks-first.result
     c.requires.runners in
@@ -34,8 +37,9 @@ pub returns-then-last-gt0-clause-written : goal.returns-then-last-gt0-clause-wri
 returns-then-last-gt0-clause-written c =
     written_first (thermal_of c.args.unit.now) (prices_of c.args.prices.now) (length c.args.prices.now.energy.items)
     c.args.first c.args.last
-    (schedule_of c.args.into.now.response) (schedule_of c.write_spell.new.into.response) c.write_spell.ensures.best
-    c.write_spell.ensures.on c.write_spell.ensures.outside
+    (schedule_of c.args.into.now.response) (schedule_of c.write_least_cost_dispatch_of_spell.new.into.response)
+    c.write_least_cost_dispatch_of_spell.ensures.best
+    c.write_least_cost_dispatch_of_spell.ensures.on c.write_least_cost_dispatch_of_spell.ensures.outside
 
 pub returns-else-last-gt0-clause-written : goal.returns-else-last-gt0-clause-written
 returns-else-last-gt0-clause-written c =

@@ -8,18 +8,20 @@ loop-number-preserved c =
     let m = market_of c.args.case.now in
     let π = prices_of c.args.prices.now in
     let number = c.loop-number.number in
-    let a = c.answer_numbered_unit.new.into in
-    let at = c.answer_numbered_unit.ensures.answer in
+    let a = c.write_best_response_of_numbered_unit.new.into in
+    let at = c.write_best_response_of_numbered_unit.ensures.answer in
     let room = c.loop-number.invariant.room in
     let spare = c.push.ensures.spare in
     record {
       tops = tops_pushed m π number c.loop-number.into.items c.push.new.self.items at.unit a.earned
-          c.loop-number.invariant.tops at.is (answer_top m π number c.answer_numbered_unit.result a at)
+          c.loop-number.invariant.tops at.is (answer_top m π number c.write_best_response_of_numbered_unit.result a at)
           (rw (to_z-of_z w64 a.earned (search rules)) at c.push.ensures.items);
-      bench = c.answer_numbered_unit.ensures.bench;
-      buffer = c.answer_numbered_unit.ensures.into;
+      bench = c.write_best_response_of_numbered_unit.ensures.bench;
+      buffer = c.write_best_response_of_numbered_unit.ensures.into;
       room = omega (arith, room, spare);
     }
 
-pub answer_numbered_unit-requires-clause-some : goal.answer_numbered_unit-requires-clause-some
-answer_numbered_unit-requires-clause-some c = c.units_can_answer.ensures (market_of c.args.case.now) c.requires.some
+pub write_best_response_of_numbered_unit-requires-clause-some :
+    goal.write_best_response_of_numbered_unit-requires-clause-some
+write_best_response_of_numbered_unit-requires-clause-some c = c.feasible_units_can_answer.ensures
+    (market_of c.args.case.now) c.requires.some

@@ -5,16 +5,16 @@ use Rattle.unit_rows.proofs.limits.least_cost_of_period.Goals as goal
 
 pub overflow_mul-reserve : goal.overflow_mul-reserve
 overflow_mul-reserve c = (reserve_left c.requires.reserve c.args.unit.now.valid.max_power
-    c.least_net_cost_known-least.ensures.bound).product_fits
+    c.least_net_cost_with_price_bounds-least.ensures.bound).product_fits
 
 pub overflow_sub-least : goal.overflow_sub-least
 overflow_sub-least c = (reserve_left c.requires.reserve c.args.unit.now.valid.max_power
-    c.least_net_cost_known-least.ensures.bound).fits
+    c.least_net_cost_with_price_bounds-least.ensures.bound).fits
 
 pub returns-clause-bound : goal.returns-clause-bound
 returns-clause-bound c =
     let left = reserve_left c.requires.reserve c.args.unit.now.valid.max_power
-    c.least_net_cost_known-least.ensures.bound in
+    c.least_net_cost_with_price_bounds-least.ensures.bound in
     let within = left.within in
     let is = left.is in
     let fits : FitsSigned w64 c.min.result = search rules in
@@ -24,10 +24,11 @@ pub returns-clause-least : goal.returns-clause-least
 returns-clause-least c =
     let u = c.args.unit.now in
     let reserve = c.args.reserve in
-    let least = c.least_net_cost_known-least.result in
+    let least = c.least_net_cost_with_price_bounds-least.result in
     let fits : FitsSigned w64 c.min.result = search rules in
-    let left = reserve_left c.requires.reserve u.valid.max_power c.least_net_cost_known-least.ensures.bound in
-    let told = rw (c.as_slice.ensures) at c.least_net_cost_known-least.ensures.least in
+    let left = reserve_left c.requires.reserve u.valid.max_power
+    c.least_net_cost_with_price_bounds-least.ensures.bound in
+    let told = rw (c.as_slice.ensures) at c.least_net_cost_with_price_bounds-least.ensures.least in
     let all : All (λ (p : Point). least ≤ℤ (p.cost -ℤ ((c.args.energy -ℤ reserve) *ℤ p.at))) u.points.items =
     simp (price_stored c.args.energy reserve c.requires.energy c.requires.reserve) at told in
     let low : to_z w64 (of_z w64 c.min.result) ≤ℤ (least -ℤ (reserve *ℤ u.max_power)) =

@@ -8,17 +8,19 @@ use Rattle.unit_table.proofs.periods.fill_table.Goals as goal
 pub loop-index-init : goal.loop-index-init
 loop-index-init c = record {
   now = record {
-    filled = c.begin_horizon.ensures.filled (prices_in c.args.question.now) (limits_in c.args.question.now)
+    filled = c.reset_table_and_running_spells.ensures.filled (prices_in c.args.question.now)
+        (limits_in c.args.question.now)
         c.args.question.now.prices.now.valid.horizon.at_least;
     noted = λ f r on x v there k from until. absurd (omega arith);
     backtracks = λ l v one until is. absurd (omega arith);
-    traces = c.begin_horizon.ensures.traces;
-    entries = (let none = ap length c.begin_horizon.ensures.log in omega arith);
-    roomy = c.begin_horizon.ensures.room (space_of c.args.shared.now.spare) (periods_in c.args.question.now)
+    traces = c.reset_table_and_running_spells.ensures.traces;
+    entries = (let none = ap length c.reset_table_and_running_spells.ensures.log in omega arith);
+    roomy = c.reset_table_and_running_spells.ensures.room (space_of c.args.shared.now.spare)
+        (periods_in c.args.question.now)
         (charge_of c.args.question.now) c.requires.room c.requires.have;
-    roster_is = c.begin_horizon.ensures.roster;
+    roster_is = c.reset_table_and_running_spells.ensures.roster;
   };
-  same = c.begin_horizon.ensures.same;
+  same = c.reset_table_and_running_spells.ensures.same;
   origins = rw c.as_slice.ensures at c.begin.ensures.origins;
   list_same = c.begin.ensures.length;
   space = refl;
@@ -28,9 +30,9 @@ pub loop-index-preserved : goal.loop-index-preserved
 loop-index-preserved c =
     let next : suc c.loop-index.index ≡ c.loop-index.index + 1 = omega arith in
     let before = c.loop-index.invariant.same in
-    let more = c.take_period.ensures.same in
+    let more = c.fill_table_row_of_period.ensures.same in
     record {
-      now = rw next at c.take_period.ensures.now;
+      now = rw next at c.fill_table_row_of_period.ensures.now;
       same = record {
         rows_length = cc;
         count_same = cc;
@@ -40,14 +42,14 @@ loop-index-preserved c =
       };
       origins = rw next at
           (subst (λ (rows : List (Option Ended)). AreOrigins (unit_of c.args.question.now) (cost_at rows)
-          (suc c.loop-index.index) c.go_on.new.self) c.as_slice-in-loop-index.ensures
-          c.go_on.ensures.origins);
+          (suc c.loop-index.index) c.advance_to_starts_after_period.new.self) c.as_slice-in-loop-index.ensures
+          c.advance_to_starts_after_period.ensures.origins);
       list_same = cc;
-      space = c.take_period.ensures.spare ∙ c.loop-index.invariant.space;
+      space = c.fill_table_row_of_period.ensures.spare ∙ c.loop-index.invariant.space;
     }
 
-pub take_period-requires-clause-long : goal.take_period-requires-clause-long
-take_period-requires-clause-long c =
+pub fill_table_row_of_period-requires-clause-long : goal.fill_table_row_of_period-requires-clause-long
+fill_table_row_of_period-requires-clause-long c =
     record {
       rows_end = omega arith;
       runners_end = omega arith;
@@ -56,18 +58,18 @@ take_period-requires-clause-long c =
       log_end = (let same = c.loop-index.invariant.same.log_same in let end = c.requires.long.log_end in omega arith);
     }
 
-pub take_period-requires-clause-have : goal.take_period-requires-clause-have
-take_period-requires-clause-have c =
+pub fill_table_row_of_period-requires-clause-have : goal.fill_table_row_of_period-requires-clause-have
+fill_table_row_of_period-requires-clause-have c =
     rw c.loop-index.invariant.space (c.loop-index.invariant.same.keeps _ c.requires.have)
 
-pub go_on-requires-clause-origins : goal.go_on-requires-clause-origins
-go_on-requires-clause-origins c =
+pub advance_to_starts_after_period-requires-clause-origins : goal.advance_to_starts_after_period-requires-clause-origins
+advance_to_starts_after_period-requires-clause-origins c =
     let old = c.loop-index.table.items in
-    let new = c.take_period.new.table.items in
+    let new = c.fill_table_row_of_period.new.table.items in
     subst (λ (rows : List (Option Ended)). AreOrigins (unit_of c.args.question.now) (cost_at rows) c.loop-index.index
     c.loop-index.origins) (sym c.as_slice-in-loop-index.ensures)
     (origins_to (unit_of c.args.question.now) (cost_at old) (cost_at new) c.loop-index.index c.loop-index.origins
-    (λ l low. cost-same new old l l (c.take_period.ensures.others l (λ z. omega arith)))
+    (λ l low. cost-same new old l l (c.fill_table_row_of_period.ensures.others l (λ z. omega arith)))
     c.loop-index.invariant.origins)
 
 pub returns-clause-filled : goal.returns-clause-filled
@@ -88,11 +90,11 @@ returns-clause-backtracks c =
 
 pub begin-requires-clause-rows : goal.begin-requires-clause-rows
 begin-requires-clause-rows c =
-    let same = ap length c.as_slice.ensures ∙ c.begin_horizon.ensures.same.rows_length in
+    let same = ap length c.as_slice.ensures ∙ c.reset_table_and_running_spells.ensures.same.rows_length in
     omega arith
 
-pub go_on-requires-clause-rows : goal.go_on-requires-clause-rows
-go_on-requires-clause-rows c =
-    let same = ap length c.as_slice-in-loop-index.ensures ∙ c.take_period.ensures.same.rows_length ∙
+pub advance_to_starts_after_period-requires-clause-rows : goal.advance_to_starts_after_period-requires-clause-rows
+advance_to_starts_after_period-requires-clause-rows c =
+    let same = ap length c.as_slice-in-loop-index.ensures ∙ c.fill_table_row_of_period.ensures.same.rows_length ∙
     c.loop-index.invariant.same.rows_length in
     omega arith

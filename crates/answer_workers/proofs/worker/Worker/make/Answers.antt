@@ -4,7 +4,7 @@ use Rattle.answer_workers.proofs.worker.Worker.make.Goals as goal
 
 pub returns-clause-parts : goal.returns-clause-parts
 returns-clause-parts c m same few = record {
-  bench = bench_of_case c.benches_serve_less.ensures m c.args.points c.in_ok-bench.bench
+  bench = bench_of_case c.bench_suffices_for_fewer_periods.ensures m c.args.points c.in_ok-bench.bench
       (subst (λ (n : ℕ). IsBenchFor n c.args.points c.in_ok-bench.bench) (sym same) c.in_ok-bench.ensures) few;
   task = subst (λ (n : ℕ). IsTaskFor n c.in_ok-answer.task) (sym same) c.in_ok-answer.ensures.task;
   answer = c.in_ok-answer.ensures.answer ∙ sym same;

@@ -3,7 +3,7 @@ use Rattle.audit_check.proofs.Lemmas.{starts, starts_within}
 use Rattle.audit_check.proofs.answerer.Answerer.make.Goals as goal
 
 pub invariant_of-result-clause-some : goal.invariant_of-result-clause-some
-invariant_of-result-clause-some c = c.units_can_answer.ensures (market_of c.args.case.now) c.requires.schedules
+invariant_of-result-clause-some c = c.feasible_units_can_answer.ensures (market_of c.args.case.now) c.requires.schedules
 
 pub invariant_of-result-clause-kept : goal.invariant_of-result-clause-kept
 invariant_of-result-clause-kept c =

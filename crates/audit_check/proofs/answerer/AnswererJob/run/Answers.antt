@@ -2,8 +2,8 @@ use Rattle.audit_check.proofs.Common.{◌≡◌, ℕ, ◌+◌, sym, subst, lengt
 use Rattle.audit_check.proofs.Lemmas.{keeps_more, few_units, one_longer, within_wider}
 use Rattle.audit_check.proofs.answerer.AnswererJob.run.Goals as goal
 
-pub count_unit_answer-requires-clause-within : goal.count_unit_answer-requires-clause-within
-count_unit_answer-requires-clause-within c =
+pub answer_unit_and_add_to_sums-requires-clause-within : goal.answer_unit_and_add_to_sums-requires-clause-within
+answer_unit_and_add_to_sums-requires-clause-within c =
     let m = market_of c.args.self.now.case.now in
     let few = few_units m c.args.self.now.case.now.valid in
     let count = c.args.self.now.count in
@@ -14,7 +14,7 @@ pub invariant_of-self-clause-kept : goal.invariant_of-self-clause-kept
 invariant_of-self-clause-kept c =
     let s = c.args.self.now in
     keeps_more (market_of s.case.now) (prices_of s.prices) s.numbers.items c.push.new.self.items c.args.task s.sums
-    c.count_unit_answer.new.sums c.push.ensures.items s.kept c.count_unit_answer.ensures.more
+    c.answer_unit_and_add_to_sums.new.sums c.push.ensures.items s.kept c.answer_unit_and_add_to_sums.ensures.more
 
 pub invariant_of-self-clause-within : goal.invariant_of-self-clause-within
 invariant_of-self-clause-within c =
@@ -22,8 +22,8 @@ invariant_of-self-clause-within c =
     let m = market_of s.case.now in
     let long : length s.numbers.items + 1 ≡ length c.push.new.self.items =
     sym (one_longer s.numbers.items c.push.new.self.items c.args.task c.push.ensures.items) in
-    subst (λ (n : ℕ). AreWithin m.periods n c.count_unit_answer.new.sums) long
-    (c.count_unit_answer.ensures.within (length s.numbers.items) s.within)
+    subst (λ (n : ℕ). AreWithin m.periods n c.answer_unit_and_add_to_sums.new.sums) long
+    (c.answer_unit_and_add_to_sums.ensures.within (length s.numbers.items) s.within)
 
 pub invariant_of-self-clause-room : goal.invariant_of-self-clause-room
 invariant_of-self-clause-room c =

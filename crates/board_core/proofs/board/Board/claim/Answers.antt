@@ -193,7 +193,8 @@ invariant_of-self c =
     let K = c.self.invariant.1 in
     let early = c.if-open-before.false in
     let history =
-    c.push_reserved-2.ensures.items ∙ ap (λ (e : Entry). s.lists.history.items ++ e ∷ []) c.entry_of-entry.ensures in
+    c.push_reserved-2.ensures.items ∙ ap (λ (e : Entry). s.lists.history.items ++ e ∷ [])
+    c.history_entry_of_call-entry.ensures in
     let takers = c.push_reserved.ensures.items in
     let events = events_are d c.push_reserved-2.new.self.items history in
     let caller : k < (b d).callers =
@@ -239,7 +240,8 @@ returns-clause-after c =
     let d = (goal.at.returns-clause-after c).After-unit_count-units in
     let s = c.self.inside in
     let history =
-    c.push_reserved-2.ensures.items ∙ ap (λ (e : Entry). s.lists.history.items ++ e ∷ []) c.entry_of-entry.ensures in
+    c.push_reserved-2.ensures.items ∙ ap (λ (e : Entry). s.lists.history.items ++ e ∷ [])
+    c.history_entry_of_call-entry.ensures in
     ap (content (b d)) (events_are d c.push_reserved-2.new.self.items history)
     ∙ followed c.self.view_is (given d c.if-open-before.false) c.args.caller
 
@@ -276,14 +278,14 @@ pub fill_task-requires-clause-room : goal.fill_task-requires-clause-room
 fill_task-requires-clause-room c =
     subst (λ (v : Content). IsTaskFor v.setup.market.periods c.args.into.now) (sym c.self.view_is) c.requires.room
 
-pub entry_of-entry-requires-clause-caller : goal.entry_of-entry-requires-clause-caller
-entry_of-entry-requires-clause-caller c =
+pub history_entry_of_call-entry-requires-clause-caller : goal.history_entry_of_call-entry-requires-clause-caller
+history_entry_of_call-entry-requires-clause-caller c =
     caller_few c.args.caller c.self.inside.terms.callers MOST_CALLERS
     (subst (λ (v : Content). c.args.caller < v.setup.callers) (sym c.self.view_is) c.requires.caller)
     c.self.invariant.0.setup.callers
 
-pub entry_of-entry-requires-clause-proposal : goal.entry_of-entry-requires-clause-proposal
-entry_of-entry-requires-clause-proposal c =
+pub history_entry_of_call-entry-requires-clause-proposal : goal.history_entry_of_call-entry-requires-clause-proposal
+history_entry_of_call-entry-requires-clause-proposal c =
     let B = c.self.invariant.0 in
     open_few (c.len-number.result / c.unit_count-units.result) c.opened-open.result c.self.inside.ledger.opened
     c.self.inside.terms.budget MOST_PROPOSALS c.if-open-before.false c.opened-open.ensures B.ledger.opened

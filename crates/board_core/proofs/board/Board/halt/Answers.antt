@@ -78,7 +78,8 @@ invariant_of-self c =
     let K = c.self.invariant.1 in
     let first = was d ∙ c.if-index.false in
     let history =
-    c.push_reserved.ensures.items ∙ ap (λ (e : Entry). s.lists.history.items ++ e ∷ []) c.entry_of-entry.ensures in
+    c.push_reserved.ensures.items ∙ ap (λ (e : Entry). s.lists.history.items ++ e ∷ [])
+    c.history_entry_of_call-entry.ensures in
     let events = events_are d c.push_reserved.new.self.items history in
     let less = one_less s.lists.halted.items k (place d) first in
     let room = K.room in
@@ -109,13 +110,14 @@ returns c =
     let d = (goal.at.returns c).After-index in
     let s = c.self.inside in
     let history =
-    c.push_reserved.ensures.items ∙ ap (λ (e : Entry). s.lists.history.items ++ e ∷ []) c.entry_of-entry.ensures in
+    c.push_reserved.ensures.items ∙ ap (λ (e : Entry). s.lists.history.items ++ e ∷ [])
+    c.history_entry_of_call-entry.ensures in
     ap (content (b d)) (events_are d c.push_reserved.new.self.items history)
     ∙ followed d false (not_yet (b d) (h d) (x d) s.ledger c.self.invariant.0 c.args.caller (caller d)
     (was d ∙ c.if-index.false))
 
-pub entry_of-entry-requires-clause-caller : goal.entry_of-entry-requires-clause-caller
-entry_of-entry-requires-clause-caller c =
+pub history_entry_of_call-entry-requires-clause-caller : goal.history_entry_of_call-entry-requires-clause-caller
+history_entry_of_call-entry-requires-clause-caller c =
     caller_few c.args.caller c.self.inside.terms.callers MOST_CALLERS
     (subst (λ (v : Content). c.args.caller < v.setup.callers) (sym c.self.view_is) c.requires)
     c.self.invariant.0.setup.callers

@@ -14,8 +14,8 @@ within tasks periods some size = let more = le-mul_of_pos_right tasks some in om
 few : (b : Setup) (S : IsSetup b) (units : ℕ) → units ≡ unit_count b.market → b.budget * units ≤ MOST_TASKS
 few b S units is = rw is (within (b.budget * unit_count b.market) b.market.periods S.market.horizon.at_least S.size)
 
-pub no_events-requires-clause-tasks : goal.no_events-requires-clause-tasks
-no_events-requires-clause-tasks c =
+pub make_empty_event_lists-requires-clause-tasks : goal.make_empty_event_lists-requires-clause-tasks
+make_empty_event_lists-requires-clause-tasks c =
     few (setup_of c.args.terms) c.requires c.unit_count.result c.unit_count.ensures.value
 
 pub make-requires-2-clause-few : goal.make-requires-2-clause-few
@@ -24,8 +24,9 @@ make-requires-2-clause-few c = few (setup_of c.args.terms) c.requires c.unit_cou
 pub make-requires-2-clause-size : goal.make-requires-2-clause-size
 make-requires-2-clause-size c = rw c.unit_count.ensures.value c.requires.size
 
-pub open_ledger-requires-clause-horizon : goal.open_ledger-requires-clause-horizon
-open_ledger-requires-clause-horizon c = c.in_ok-room.ensures.next
+pub make_ledger_with_open_proposals-requires-clause-horizon :
+    goal.make_ledger_with_open_proposals-requires-clause-horizon
+make_ledger_with_open_proposals-requires-clause-horizon c = c.in_ok-room.ensures.next
 
 pub invariant_of-result : goal.invariant_of-result
 invariant_of-result c =
@@ -81,7 +82,7 @@ invariant_of-result c =
         entries_are = ap entries_of e5 ∙ sym E.history;
         store = c.in_ok-store.ensures.periods;
         left = omega (arith, u1, tasks, c.in_ok-store.ensures.left);
-        next = c.open_ledger.ensures.horizon;
+        next = c.make_ledger_with_open_proposals.ensures.horizon;
       },
       c.in_ok-room.ensures.own,
     )

@@ -289,7 +289,7 @@ pub put-requires-clause-like : goal.put-requires-clause-like
 put-requires-clause-like c =
     let e = kept_in (goal.at.put-requires-clause-like c).In_default in
     let at_ = number_is (goal.at.put-requires-clause-like c).After-task_number-at in
-    omega (arith, e, at_, c.number_before.ensures)
+    omega (arith, e, at_, c.task_number_one_proposal_before.ensures)
 
 pub put-requires-clause-left : goal.put-requires-clause-left
 put-requires-clause-left c =
@@ -415,8 +415,8 @@ invariant_of-self-2 c =
     let marks_is : set s.lists.marks.items c.task_number-at.result true ≡ set s.lists.marks.items (i d) true =
     ap (λ (j : ℕ). set s.lists.marks.items j true) at_ in
     let events = events_so d c.count_answer.result c.unit_count-units.result c.count_answer.ensures.count
-    c.unit_count-units.ensures.value c.post_entry.result c.push_reserved.new.self.items
-    c.put.new.self.answers c.post_entry.ensures c.push_reserved.ensures.items kept in
+    c.unit_count-units.ensures.value c.history_entry_of_taken_post.result c.push_reserved.new.self.items
+    c.put.new.self.answers c.history_entry_of_taken_post.ensures c.push_reserved.ensures.items kept in
     let T3 = subst (λ (z : Sums). AreTallies (b d) (counts2 d) z (q d)) (sym c.advance_proposals.ensures.sums) T in
     let R3 = subst (λ (xs : List ℕ). IsRound (b d) (units d) xs (sums_of l3) (fronts_of l3)) cs
     c.advance_proposals.ensures.round in
@@ -441,8 +441,8 @@ invariant_of-self-2 c =
     let unset_at = ap unset marks_is in
     let room = K.room in
     let longer = ap (λ (xs : List Entry). length xs) c.push_reserved.ensures.items in
-    let entry_same : c.post_entry.result ≡ entry_of (event d) =
-    c.post_entry.ensures ∙
+    let entry_same : c.history_entry_of_taken_post.result ≡ entry_of (event d) =
+    c.history_entry_of_taken_post.ensures ∙
     ap (λ (y : Bool). record { caller = k d; call = calls.Post; proposal = n d; unit = u d; reply = reply_of y })
     (closes_so d c.count_answer.result c.unit_count-units.result c.count_answer.ensures.count
     c.unit_count-units.ensures.value) ∙
@@ -455,7 +455,7 @@ invariant_of-self-2 c =
           fewer,
           longer,
           unset_at,
-          length-append s.lists.history.items (c.post_entry.result ∷ []),
+          length-append s.lists.history.items (c.history_entry_of_taken_post.result ∷ []),
           c.push_reserved.ensures.capacity,
         );
         takers_room = K.takers_room;
@@ -475,7 +475,7 @@ pub returns-clause-answer : goal.returns-clause-answer
 returns-clause-answer c =
     let d = (goal.at.returns-clause-answer c).In_default in
     ap (λ (y : Option ℕ). replies_of.Taken y)
-    (c.closed_proposal.ensures ∙ ap (λ (y : Bool). closed_if y (n d))
+    (c.number_of_proposal_if_closed.ensures ∙ ap (λ (y : Bool). closed_if y (n d))
     (closes_so d c.count_answer.result c.unit_count-units.result c.count_answer.ensures.count
     c.unit_count-units.ensures.value))
     ∙ sym (ap posted_of (ok d).reply) ∙
@@ -487,25 +487,25 @@ returns-clause-after c =
     let kept = kept_is (goal.at.returns-clause-after c).After-put (i d)
     (number_is (goal.at.returns-clause-after c).After-task_number-at) in
     let events = events_so d c.count_answer.result c.unit_count-units.result c.count_answer.ensures.count
-    c.unit_count-units.ensures.value c.post_entry.result c.push_reserved.new.self.items
-    c.put.new.self.answers c.post_entry.ensures c.push_reserved.ensures.items kept in
+    c.unit_count-units.ensures.value c.history_entry_of_taken_post.result c.push_reserved.new.self.items
+    c.put.new.self.answers c.history_entry_of_taken_post.ensures c.push_reserved.ensures.items kept in
     ap (content (b d)) events ∙ sym (ap (λ r. content (b d) (with_answer (h d) (event d) r)) (ok d).reply) ∙
     ap (λ (z : Content). after_post z (k d) (n d) (u d) (ρ d) (v d) (a d)) c.self.view_is
 
 pub overflow_sub-before : goal.overflow_sub-before
 overflow_sub-before c = (ok (goal.at.overflow_sub-before c).In_default).held.one
 
-pub post_entry-requires-clause-caller : goal.post_entry-requires-clause-caller
-post_entry-requires-clause-caller c =
-    let d = (goal.at.post_entry-requires-clause-caller c).In_default in
+pub history_entry_of_taken_post-requires-clause-caller : goal.history_entry_of_taken_post-requires-clause-caller
+history_entry_of_taken_post-requires-clause-caller c =
+    let d = (goal.at.history_entry_of_taken_post-requires-clause-caller c).In_default in
     caller_few c.args.caller (b d).callers MOST_CALLERS (caller d) (I d).setup.callers
 
-pub post_entry-requires-clause-proposal : goal.post_entry-requires-clause-proposal
-post_entry-requires-clause-proposal c =
-    let d = (goal.at.post_entry-requires-clause-proposal c).In_default in
+pub history_entry_of_taken_post-requires-clause-proposal : goal.history_entry_of_taken_post-requires-clause-proposal
+history_entry_of_taken_post-requires-clause-proposal c =
+    let d = (goal.at.history_entry_of_taken_post-requires-clause-proposal c).In_default in
     le_trans (ok d).held.within (le_trans (I d).ledger.opened (I d).setup.budget)
 
-pub post_entry-requires-clause-unit : goal.post_entry-requires-clause-unit
-post_entry-requires-clause-unit c =
-    let d = (goal.at.post_entry-requires-clause-unit c).In_default in
+pub history_entry_of_taken_post-requires-clause-unit : goal.history_entry_of_taken_post-requires-clause-unit
+history_entry_of_taken_post-requires-clause-unit c =
+    let d = (goal.at.history_entry_of_taken_post-requires-clause-unit c).In_default in
     caller_few (u d) (units d) MOST_UNITS (ok d).held.inside (units_few (b d) (I d).setup)

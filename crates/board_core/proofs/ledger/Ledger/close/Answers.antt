@@ -25,23 +25,26 @@ returns-clause-proposals c =
     let r = c.index_mut.result.now in
     let place = subst (λ (v : LedgerValue). v.closed < length v.proposals) (sym c.self.view_is) c.requires in
     let f : FitsSigned w128 c.args.value = search rules in
-    let made = simp to_z-of_z at c.set_value.ensures in
+    let made = simp to_z-of_z at c.set_dual_value_of_row.ensures in
     subst (λ (v : LedgerValue). (d : Proposal) →
-    map proposal_of (slice_set s.proposals.items s.closed c.set_value.new.row) ≡ slice_set v.proposals v.closed
+    map proposal_of (slice_set s.proposals.items s.closed c.set_dual_value_of_row.new.row) ≡ slice_set v.proposals
+    v.closed
     (with_value (slice_index_or v.proposals v.closed d) c.args.value)) c.self.view_is
-    (λ d. set_mapped (λ (p : Proposal). with_value p c.args.value) s.proposals.items s.closed r c.set_value.new.row d
+    (λ d. set_mapped (λ (p : Proposal). with_value p c.args.value) s.proposals.items s.closed r
+    c.set_dual_value_of_row.new.row d
     place c.index_mut.ensures.value made)
 
-pub greatest_row_with-best-requires-clause-best : goal.greatest_row_with-best-requires-clause-best
-greatest_row_with-best-requires-clause-best c = λ some.
+pub row_of_greatest_dual_value_up_to-best-requires-clause-best :
+    goal.row_of_greatest_dual_value_up_to-best-requires-clause-best
+row_of_greatest_dual_value_up_to-best-requires-clause-best c = λ some.
     let s = c.self.inside in
     let r = c.index_mut.result.now in
     let place = subst (λ (v : LedgerValue). v.closed < length v.proposals) (sym c.self.view_is) c.requires in
     let f : FitsSigned w128 c.args.value = search rules in
-    let made = simp to_z-of_z at c.set_value.ensures in
+    let made = simp to_z-of_z at c.set_dual_value_of_row.ensures in
     let d = proposal_of r in
     let set_is = set_mapped (λ (p : Proposal). with_value p c.args.value) s.proposals.items s.closed r
-    c.set_value.new.row d place c.index_mut.ensures.value made in
+    c.set_dual_value_of_row.new.row d place c.index_mut.ensures.value made in
     subst (λ ps. IsFirstUpTo (values_of ps) s.closed s.best)
     (sym (ap (λ (xs : List Row). map proposal_of xs) c.deref.ensures.value ∙ set_is))
     (kept_first (map proposal_of s.proposals.items) s.closed s.best
@@ -51,4 +54,5 @@ greatest_row_with-best-requires-clause-best c = λ some.
 pub invariant_of-self : goal.invariant_of-self
 invariant_of-self c =
     λ _. subst (λ (xs : List Row). IsFirstUpTo (values_of (map proposal_of xs)) (c.self.inside.closed + 1)
-    c.greatest_row_with-best.result) c.deref.ensures.value c.greatest_row_with-best.ensures
+    c.row_of_greatest_dual_value_up_to-best.result) c.deref.ensures.value
+    c.row_of_greatest_dual_value_up_to-best.ensures

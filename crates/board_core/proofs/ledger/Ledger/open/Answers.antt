@@ -19,8 +19,8 @@ returns-clause-closed c = ap (λ (v : LedgerValue). v.closed) c.self.view_is
 pub returns-clause-opened : goal.returns-clause-opened
 returns-clause-opened c = ap (λ (v : LedgerValue). v.opened + 1) c.self.view_is
 
-pub set_prices-requires : goal.set_prices-requires
-set_prices-requires c =
+pub set_prices_of_row-requires : goal.set_prices_of_row-requires
+set_prices_of_row-requires c =
     let s = c.self.inside in
     let r = c.index_mut.result.now in
     let place = subst (λ (v : LedgerValue). v.opened < length v.proposals) (sym c.self.view_is) c.requires.place in
@@ -37,10 +37,11 @@ returns-clause-proposals c =
     let π = prices_of c.args.prices.now in
     let place = subst (λ (v : LedgerValue). v.opened < length v.proposals) (sym c.self.view_is) c.requires.place in
     subst (λ (v : LedgerValue). (d : Proposal) →
-    map proposal_of (slice_set s.proposals.items s.opened c.set_prices.new.row) ≡ slice_set v.proposals v.opened
+    map proposal_of (slice_set s.proposals.items s.opened c.set_prices_of_row.new.row) ≡ slice_set v.proposals v.opened
     (with_prices (slice_index_or v.proposals v.opened d) π)) c.self.view_is
-    (λ d. set_mapped (λ (p : Proposal). with_prices p π) s.proposals.items s.opened r c.set_prices.new.row d place
-    c.index_mut.ensures.value c.set_prices.ensures)
+    (λ d. set_mapped (λ (p : Proposal). with_prices p π) s.proposals.items s.opened r c.set_prices_of_row.new.row d
+    place
+    c.index_mut.ensures.value c.set_prices_of_row.ensures)
 
 pub invariant_of-self : goal.invariant_of-self
 invariant_of-self c = λ some.
@@ -49,8 +50,9 @@ invariant_of-self c = λ some.
     let d = proposal_of r in
     let π = prices_of c.args.prices.now in
     let place = subst (λ (v : LedgerValue). v.opened < length v.proposals) (sym c.self.view_is) c.requires.place in
-    let set_is = set_mapped (λ (p : Proposal). with_prices p π) s.proposals.items s.opened r c.set_prices.new.row d
-    place c.index_mut.ensures.value c.set_prices.ensures in
+    let set_is = set_mapped (λ (p : Proposal). with_prices p π) s.proposals.items s.opened r
+    c.set_prices_of_row.new.row d
+    place c.index_mut.ensures.value c.set_prices_of_row.ensures in
     let same = same_values (map proposal_of s.proposals.items) s.opened
     (with_prices (slice_index_or (map proposal_of s.proposals.items) s.opened d) π) d refl in
     subst (λ values. IsFirstUpTo values s.closed s.best) (sym (ap values_of set_is ∙ same)) (c.self.invariant some)

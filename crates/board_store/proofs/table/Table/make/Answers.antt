@@ -4,7 +4,7 @@ use Rattle.board_store.proofs.table.Table.make.Goals as goal
 
 pub invariant_of-result : goal.invariant_of-result
 invariant_of-result g c =
-    let b = c.add_runs in
+    let b = c.append_runs_of_value in
     let none = ap (λ (xs : List _). length xs) c.in_ok-lengths.ensures.items in
     table_blank c.args.long c.args.count c.in_ok-starts.starts.items b.new.lengths.items b.new.values.items
     (vec_capacity b.new.lengths) (vec_capacity b.new.values) c.args.blank c.in_ok-starts.ensures b.ensures.added.pairs
@@ -15,6 +15,7 @@ invariant_of-result g c =
 
 pub returns-clause-rows : goal.returns-clause-rows
 returns-clause-rows g c =
-    rows_blank c.args.long c.args.count c.in_ok-starts.starts.items c.add_runs.new.lengths.items
-    c.add_runs.new.values.items c.args.blank c.in_ok-starts.ensures (laid_first _ _ _ _ _ c.add_runs.ensures.added
+    rows_blank c.args.long c.args.count c.in_ok-starts.starts.items c.append_runs_of_value.new.lengths.items
+    c.append_runs_of_value.new.values.items c.args.blank c.in_ok-starts.ensures
+    (laid_first _ _ _ _ _ c.append_runs_of_value.ensures.added
     c.in_ok-lengths.ensures.items)

@@ -10,8 +10,8 @@ index-like-requires g c =
     c.requires.like in
     omega (arith, lt)
 
-pub start_of_runs-start-requires-clause-like : goal.start_of_runs-start-requires-clause-like
-start_of_runs-start-requires-clause-like g c =
+pub find_or_append_runs_of_row-start-requires-clause-like : goal.find_or_append_runs_of_row-start-requires-clause-like
+find_or_append_runs_of_row-start-requires-clause-like g c =
     let s = c.self.inside in
     row_whole s.long s.starts.items s.used s.lengths.items s.values.items (vec_capacity s.lengths)
     (vec_capacity s.values) c.self.invariant c.args.like c.index-like.result.now
@@ -19,22 +19,23 @@ start_of_runs-start-requires-clause-like g c =
     c.index-like.ensures (length c.args.row.now)
     (c.requires.long ∙ sym (long_is _ s.long _ s.starts.items s.lengths.items s.values.items c.self.view_is))
 
-pub start_of_runs-start-requires-clause-first : goal.start_of_runs-start-requires-clause-first
-start_of_runs-start-requires-clause-first g c =
+pub find_or_append_runs_of_row-start-requires-clause-first : goal.find_or_append_runs_of_row-start-requires-clause-first
+find_or_append_runs_of_row-start-requires-clause-first g c =
     let s = c.self.inside in
     blank_first s.long s.starts.items s.used s.lengths.items s.values.items (vec_capacity s.lengths)
     (vec_capacity s.values) c.self.invariant c.args.row.now
     (c.requires.long ∙ sym (long_is _ s.long _ s.starts.items s.lengths.items s.values.items c.self.view_is))
 
-pub start_of_runs-start-requires-clause-few : goal.start_of_runs-start-requires-clause-few
-start_of_runs-start-requires-clause-few g c =
+pub find_or_append_runs_of_row-start-requires-clause-few : goal.find_or_append_runs_of_row-start-requires-clause-few
+find_or_append_runs_of_row-start-requires-clause-few g c =
     let s = c.self.inside in
     runs_few s.long s.starts.items s.used s.lengths.items s.values.items (vec_capacity s.lengths)
     (vec_capacity s.values) c.self.invariant
     (left_some _ s.long _ s.starts.items s.lengths.items s.values.items c.self.view_is s.used refl c.requires.left)
 
-pub start_of_runs-start-requires-clause-lengths_room : goal.start_of_runs-start-requires-clause-lengths_room
-start_of_runs-start-requires-clause-lengths_room g c =
+pub find_or_append_runs_of_row-start-requires-clause-lengths_room :
+    goal.find_or_append_runs_of_row-start-requires-clause-lengths_room
+find_or_append_runs_of_row-start-requires-clause-lengths_room g c =
     let s = c.self.inside in
     let free = lengths_free s.long s.starts.items s.used s.lengths.items s.values.items (vec_capacity s.lengths)
     (vec_capacity s.values) c.self.invariant
@@ -42,8 +43,9 @@ start_of_runs-start-requires-clause-lengths_room g c =
     let k = long_is _ s.long _ s.starts.items s.lengths.items s.values.items c.self.view_is in
     omega (arith, free, k, c.requires.long, s.lengths.ok.0)
 
-pub start_of_runs-start-requires-clause-values_room : goal.start_of_runs-start-requires-clause-values_room
-start_of_runs-start-requires-clause-values_room g c =
+pub find_or_append_runs_of_row-start-requires-clause-values_room :
+    goal.find_or_append_runs_of_row-start-requires-clause-values_room
+find_or_append_runs_of_row-start-requires-clause-values_room g c =
     let s = c.self.inside in
     let free = values_free s.long s.starts.items s.used s.lengths.items s.values.items (vec_capacity s.lengths)
     (vec_capacity s.values) c.self.invariant
@@ -61,7 +63,7 @@ index_mut-requires g c =
 pub invariant_of-self : goal.invariant_of-self
 invariant_of-self g c =
     let s = c.self.inside in
-    let at = c.start_of_runs-start in
+    let at = c.find_or_append_runs_of_row-start in
     table_more s.long s.starts.items s.used s.lengths.items s.values.items (vec_capacity s.lengths)
     (vec_capacity s.values) c.self.invariant
     (left_some _ s.long _ s.starts.items s.lengths.items s.values.items c.self.view_is s.used refl c.requires.left)
@@ -73,7 +75,7 @@ invariant_of-self g c =
 pub returns-clause-rows : goal.returns-clause-rows
 returns-clause-rows g c =
     let s = c.self.inside in
-    let at = c.start_of_runs-start in
+    let at = c.find_or_append_runs_of_row-start in
     rows_more _ s.long _ s.starts.items s.lengths.items s.values.items c.self.view_is s.used (vec_capacity s.lengths)
     (vec_capacity s.values) c.self.invariant c.args.index at.result c.args.row.now
     (c.requires.long ∙ sym (long_is _ s.long _ s.starts.items s.lengths.items s.values.items c.self.view_is))
@@ -88,4 +90,4 @@ pub returns-clause-left : goal.returns-clause-left
 returns-clause-left g c =
     let s = c.self.inside in
     left_less _ s.long _ s.starts.items s.lengths.items s.values.items c.self.view_is s.used c.args.index
-    c.start_of_runs-start.result refl
+    c.find_or_append_runs_of_row-start.result refl

@@ -30,7 +30,7 @@ returns-clause-sum c =
     rw (written k2 c.args.self.now.work.items c.args.self.now.work.len long)
     (curve_sum c.knots_decide.ensures.same c.args.self.now.work.items c.deref_mut.result.now c.args.used fits
     c.deref_mut.ensures.value c.requires.breaks
-    k2 c.curve_step.result most c.curve_step.ensures.breaks c.effects_are_of_values.ensures.curve
+    k2 c.curve_step.result most c.curve_step.ensures.breaks c.operations_depend_on_values_alone.ensures.curve
     (curve_value c.args.curve.now) c.args.shift (rw e-shift at c.curve_step.ensures.sum))
 
 pub returns-clause-breaks : goal.returns-clause-breaks

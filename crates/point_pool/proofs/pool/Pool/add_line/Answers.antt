@@ -29,7 +29,8 @@ returns-clause-sum c =
     rw (written k2 c.args.self.now.work.items c.args.self.now.work.len long)
     (sum c.knots_decide.ensures.same c.args.self.now.work.items c.deref_mut.result.now c.args.used fits
     c.deref_mut.ensures.value c.requires.breaks
-    k2 c.args.used most c.line_step.ensures.breaks c.effects_are_of_values.ensures.sum (λ (x : ℤ). c.args.slope *ℤ x)
+    k2 c.args.used most c.line_step.ensures.breaks c.operations_depend_on_values_alone.ensures.sum
+    (λ (x : ℤ). c.args.slope *ℤ x)
     (rw e-slope at c.line_step.ensures.sum))
 
 pub returns-clause-breaks : goal.returns-clause-breaks

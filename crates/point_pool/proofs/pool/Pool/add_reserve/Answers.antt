@@ -35,7 +35,7 @@ returns-clause-sum c =
     rw (written k2 c.args.self.now.work.items c.args.self.now.work.len long)
     (sum c.knots_decide.ensures.same c.args.self.now.work.items c.deref_mut.result.now c.args.used fits
     c.deref_mut.ensures.value c.requires.breaks
-    k2 c.kink_step.result most c.kink_step.ensures.breaks c.effects_are_of_values.ensures.sum
+    k2 c.kink_step.result most c.kink_step.ensures.breaks c.operations_depend_on_values_alone.ensures.sum
     (reserve_term c.args.mu c.args.cap c.args.up) (rw (e-mu, e-cap, e-up) at c.kink_step.ensures.sum))
 
 pub returns-clause-breaks : goal.returns-clause-breaks

@@ -25,7 +25,8 @@ returns-clause-window c =
     rw (written k2 c.args.self.now.work.items c.args.self.now.work.len long)
     (moved c.knots_decide.ensures.same c.args.self.now.work.items c.deref_mut.result.now c.args.used fits
     c.deref_mut.ensures.value c.requires.breaks
-    k2 c.window_step.result most c.window_step.ensures.breaks c.effects_are_of_values.ensures.window c.args.up
+    k2 c.window_step.result most c.window_step.ensures.breaks c.operations_depend_on_values_alone.ensures.window
+    c.args.up
     c.args.down c.args.lo c.args.hi (rw (e-up, e-down, e-lo, e-hi) at c.window_step.ensures.window))
 
 pub returns-clause-breaks : goal.returns-clause-breaks

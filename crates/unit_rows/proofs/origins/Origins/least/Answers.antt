@@ -21,7 +21,7 @@ loop-index-preserved c =
     let o = c.get-origin.result.now in
     let x = c.sum_of_costs-cost.result in
     let start = c.cost_of_start_after.result in
-    let least' = c.lesser_entry-least.result in
+    let least' = c.lesser_spell_entry-least.result in
     let fits : FitsSigned w64 o.cost = search rules in
     let fits_start : FitsSigned w64 start = search rules in
     let fits_sum : FitsSigned w64 x = search rules in
@@ -31,9 +31,9 @@ loop-index-preserved c =
     let last = c.requires.within.last c.loop-index.index o c.loop-index-test.true c.get-origin.ensures.item in
     let from : IfSome least'
     (λ (r : Entry). (c.loop-index.least ≡ Some r) ⊎ ((Some x ≡ Some r.cost) × (r.last ≡ o.last))) = simp to_z-of_z
-    at c.lesser_entry-least.ensures.from in
+    at c.lesser_spell_entry-least.ensures.from in
     let added : (v : ℤ) → Some x ≡ Some v → HasEntryAtMost least' v = simp to_z-of_z at
-    c.lesser_entry-least.ensures.added in
+    c.lesser_spell_entry-least.ensures.added in
     one_more u c.args.period c.args.self.now c.requires.order c.loop-index.index c.loop-index-test.true o
     c.get-origin.ensures.item x (cc)
     (record {
@@ -46,7 +46,7 @@ loop-index-preserved c =
       | inl h ↦ inl h
       | inr h ↦ inr ((cc), h.1)
     ])
-    c.lesser_entry-least.ensures.old (added x refl) c.lesser_entry-least.ensures.kept
+    c.lesser_spell_entry-least.ensures.old (added x refl) c.lesser_spell_entry-least.ensures.kept
 
 pub returns-clause-some : goal.returns-clause-some
 returns-clause-some c =

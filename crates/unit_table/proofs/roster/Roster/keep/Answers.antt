@@ -1,7 +1,8 @@
 use Rattle.unit_table.proofs.Common.{◌≡◌, ℕ, ◌<◌, List, length, refl, ap, ◌∙◌, arith, length-set, live_at}
 use Rattle.unit_table.proofs.Lemmas.{none_kept, one_kept, one_off, all_kept, first_inside, off_from}
 use Rattle.unit_table.proofs.roster.Roster.keep.Goals as goal
-use Rattle.unit_table.proofs.roster.Roster.keep.Goals.{then-runner_at, else-runner_at}
+use Rattle.unit_table.proofs.roster.Roster.keep.Goals.{then-running_spell_of_first_period}
+use Rattle.unit_table.proofs.roster.Roster.keep.Goals.{else-running_spell_of_first_period}
 
 pub loop-index-init : goal.loop-index-init
 loop-index-init c = record {
@@ -11,8 +12,8 @@ loop-index-init c = record {
   count_same = refl;
 }
 
-pub runner_at-requires : goal.runner_at-requires
-runner_at-requires c =
+pub running_spell_of_first_period-requires : goal.running_spell_of_first_period-requires
+running_spell_of_first_period-requires c =
     let list = c.requires.roster in
     let below = first_inside (live_at c.args.runners.now) list.0 c.args.self.now list.2 c.loop-index.index
     c.loop-index.kept c.loop-index.self.firsts.items
@@ -31,8 +32,8 @@ loop-index-preserved c =
     let count_same = c.loop-index.invariant.count_same in
     let same_length = c.loop-index.invariant.same_length in
     let inside : p < old.count = omega arith in
-    elim c.if-runner_at.branch [
-      | then-runner_at w ↦
+    elim c.if-running_spell_of_first_period.branch [
+      | then-running_spell_of_first_period w ↦
           let set = w.set.ensures.items in
           let same : length w.set.new.self.items ≡ length items = ap (λ (xs : List ℕ). length xs) set ∙
           length-set items q first in
@@ -43,11 +44,12 @@ loop-index-preserved c =
             same_length = cc;
             count_same = count_same;
           }))
-      | else-runner_at w ↦
+      | else-running_spell_of_first_period w ↦
           rw w.self-is (rw w.kept-is (record {
             kept = λ until list. one_off live until old list p q items (c.loop-index.invariant.kept until list) inside
                 first c.get-first.ensures.item
-                (off_from c.args.runners.now first c.runner_at.result.now c.runner_at.ensures w.if-runner_at.false);
+                (off_from c.args.runners.now first c.running_spell_of_first_period.result.now
+                c.running_spell_of_first_period.ensures w.if-running_spell_of_first_period.false);
             low = omega arith;
             same_length = same_length;
             count_same = count_same;

@@ -1,5 +1,0 @@
-use Rattle.board_store.proofs.Lemmas.{run_fits}
-use Rattle.board_store.proofs.laws.finished_is_run.Goals as goal
-
-pub returns : goal.returns
-returns c = run_fits

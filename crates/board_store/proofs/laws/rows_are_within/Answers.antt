@@ -1,6 +1,0 @@
-use Rattle.board_store.proofs.Lemmas.{rows_are_within, model_laws}
-use Rattle.board_store.proofs.laws.rows_are_within.Goals as goal
-
-pub returns : goal.returns
-returns c = rows_are_within (model_laws c.outputs_are_within.ensures c.earnings_are_within.ensures
-    c.units_are_within.ensures c.totals_are_within.ensures c.demand_worth_is_within.ensures)

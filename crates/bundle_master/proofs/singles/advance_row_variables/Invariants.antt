@@ -1,0 +1,5 @@
+use Rattle.std.proofs.Common.{◌≡◌}
+use Rattle.bundle_master.proofs.singles.advance_row_variables.Given as goal
+
+abbrev pub invariant-loop-single : goal.invariant-loop-single
+invariant-loop-single l = l.singles ≡ l.initial.singles

@@ -1,5 +1,0 @@
-use Rattle.std.proofs.Common.{◌≡◌}
-use Rattle.bundle_master.proofs.singles.centre_singles.Given as goal
-
-abbrev pub invariant-loop-single : goal.invariant-loop-single
-invariant-loop-single l = l.singles ≡ l.initial.singles

@@ -1,5 +1,0 @@
-use Rattle.convex_search.proofs.Common.{◌≡◌, length}
-use Rattle.convex_search.proofs.short.write_wanted_weights.Given as goal
-
-abbrev pub invariant-loop-index : goal.invariant-loop-index
-invariant-loop-index l = length l.wanted.items ≡ length l.initial.wanted.items

@@ -1,5 +1,0 @@
-use Rattle.hull_command.proofs.Lemmas.{sizes}
-use Rattle.hull_command.proofs.laws.words_have_sizes.Goals as goal
-
-pub returns : goal.returns
-returns c = sizes

@@ -1,0 +1,14 @@
+use Rattle.hull_fault.proofs.Common.{[], ◌∷◌, codes, shape_told}
+use Rattle.hull_fault.proofs.Lemmas.{unit_joined, writes_same}
+use Rattle.report_form.specs.Numerals.{numeral}
+use Rattle.hull_fault.proofs.line.write_schedule_shape_fault.Goals as goal
+
+pub returns : goal.returns
+unfolding shape_told
+returns g c =
+    let f = c.args.fault.now in
+    rw (← c.number-code.ensures) (writes_same
+    (unit_joined (codes "schedule " ∷ numeral c.number-code.result ∷ [])
+    (codes " item " ∷ numeral f.item ∷ []) f.kind f.unit _
+    c.unit_kind_text-kind.ensures)
+    c.write_form_filled_with_parts.ensures)

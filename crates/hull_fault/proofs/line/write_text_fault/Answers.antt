@@ -1,6 +1,0 @@
-use Rattle.hull_fault.proofs.Common.{text_told}
-use Rattle.hull_fault.proofs.line.write_text_fault.Goals as goal
-
-pub returns : goal.returns
-unfolding text_told
-returns g c = rw (← c.file_text-word.ensures, ← c.number-code.ensures) c.write_form.ensures

@@ -1,5 +1,0 @@
-use Rattle.hull_input.proofs.Lemmas.{any_reads}
-use Rattle.hull_input.proofs.laws.something_may_be_read.Goals as goal
-
-pub returns : goal.returns
-returns g c old new name_of = any_reads (g.F.Shelf.told old) _ name_of

@@ -1,5 +1,0 @@
-use Rattle.plan_settle.proofs.Common.{AreOver}
-use Rattle.plan_settle.proofs.room.spare_answers.Given as goal
-
-abbrev pub invariant-loop : goal.invariant-loop
-invariant-loop l = AreOver l.periods l.counter l.answers.items

@@ -1,5 +1,0 @@
-use Rattle.price_space.proofs.Common.{map, proposal_of, IsFirstUpTo, values_of}
-use Rattle.price_space.proofs.best_row.greatest_row.Given as goal
-
-abbrev pub invariant-loop-i : goal.invariant-loop-i
-invariant-loop-i l = IsFirstUpTo (values_of (map proposal_of l.rows)) l.i l.best

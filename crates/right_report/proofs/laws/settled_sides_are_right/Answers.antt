@@ -1,5 +1,0 @@
-use Rattle.right_report.proofs.Lemmas.{sides_are_right}
-use Rattle.right_report.proofs.laws.settled_sides_are_right.Goals as goal
-
-pub returns : goal.returns
-returns c = sides_are_right c.finished_is_run.ensures

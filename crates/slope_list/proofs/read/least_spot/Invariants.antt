@@ -1,5 +1,0 @@
-use Rattle.slope_list.proofs.Lemmas.{HasFallen}
-use Rattle.slope_list.proofs.read.least_spot.Given as goal
-
-abbrev pub invariant-loop-piece : goal.invariant-loop-piece
-invariant-loop-piece l = HasFallen l.fn.start l.pieces l.piece-index l.at l.value

@@ -1,5 +1,0 @@
-use Rattle.slope_list.proofs.Lemmas.{convex_at, IsConvex-from_places}
-use Rattle.slope_list.proofs.shape_laws.convexity_is_of_places.Goals as goal
-
-pub returns : goal.returns
-returns c = λ f. (convex_at f, IsConvex-from_places f)

@@ -1,5 +1,0 @@
-use Rattle.slope_list.proofs.Lemmas.{IsPlace-on_curve}
-use Rattle.slope_list.proofs.shape_laws.curve_places_are_limited.Goals as goal
-
-pub returns : goal.returns
-returns c = IsPlace-on_curve

@@ -1,5 +1,0 @@
-use Rattle.spell_run.proofs.JoinLaws as joins
-use Rattle.spell_run.proofs.laws.dispatches_go_on.Goals as goal
-
-pub returns : goal.returns
-returns c = joins.dispatches_go_on

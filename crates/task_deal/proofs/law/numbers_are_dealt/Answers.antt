@@ -1,5 +1,0 @@
-use Rattle.task_deal.proofs.Lemmas.{numbers_are_dealt}
-use Rattle.task_deal.proofs.law.numbers_are_dealt.Goals as goal
-
-pub returns : goal.returns
-returns c = numbers_are_dealt

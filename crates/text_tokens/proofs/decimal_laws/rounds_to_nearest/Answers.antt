@@ -1,5 +1,0 @@
-use Rattle.text_tokens.proofs.Lemmas.{rounded_is, rounded_only}
-use Rattle.text_tokens.proofs.decimal_laws.rounds_to_nearest.Goals as goal
-
-pub returns : goal.returns
-returns c = λ d scale. (rounded_is d scale, λ n h. rounded_only d scale n h)

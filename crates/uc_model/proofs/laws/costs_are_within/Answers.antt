@@ -1,5 +1,0 @@
-use Rattle.uc_model.proofs.Lemmas.{costs_within}
-use Rattle.uc_model.proofs.laws.costs_are_within.Goals as goal
-
-pub returns : goal.returns
-returns c = costs_within

@@ -1,5 +1,0 @@
-use Rattle.uc_model.proofs.Lemmas.{totals_within}
-use Rattle.uc_model.proofs.laws.totals_are_within.Goals as goal
-
-pub returns : goal.returns
-returns c = totals_within

@@ -1,6 +1,0 @@
-use Rattle.uc_plan.proofs.Common.{refl, reading_of, plan_of}
-use Rattle.uc_plan.proofs.laws.plan_or_fault.Goals as goal
-
-pub returns : goal.returns
-returns c = λ m bytes. let found = c.one_file.ensures.some bytes in
-    (reading_of (plan_of m) found.0, (found.0, found.1, refl))

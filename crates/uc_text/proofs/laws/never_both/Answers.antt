@@ -1,5 +1,0 @@
-use Rattle.uc_text.proofs.Lemmas.{text_or_fault}
-use Rattle.uc_text.proofs.laws.never_both.Goals as goal
-
-pub returns : goal.returns
-returns c = λ limit bytes v f h k. text_or_fault limit bytes v f h k

@@ -1,5 +1,0 @@
-use Rattle.uc_text.proofs.Decided.{text_or_first_fault}
-use Rattle.uc_text.proofs.laws.text_or_fault.Goals as goal
-
-pub returns : goal.returns
-returns c = λ limit bytes. text_or_first_fault limit bytes

@@ -1,9 +1,0 @@
-use Rattle.unit_program.proofs.Common.{◌≡◌, ◌≤◌, length, vec_capacity, HaveRoom}
-use Rattle.unit_program.proofs.bench.make_runners.Given as goal
-
-abbrev pub invariant-loop : goal.invariant-loop
-invariant-loop l = record {
-  count : length l.runners.items ≡ l.counter;
-  capacity : l.count ≤ vec_capacity l.runners;
-  room : HaveRoom l.pieces l.runners.items;
-}
