@@ -1,4 +1,4 @@
-"""`hull audit`: the reports of the examples are right, and one that was changed is refused at the first line that is wrong.
+"""`hull audit`: the reports of the examples are right, and one that was changed is refused at the first line that differs, or is right.
 
 What is due for a changed report is worked out here: the form by form.py, a reader of its own; and what is right for the report's
 budget and number ahead is what `hull price` prints for them, which test_plain.py holds against a plain program.

@@ -1,5 +1,4 @@
 """Every function of the program's crates is one that `main` leads to, but for laws and what a list names with its reason."""
-import os
 import unittest
 
 import calls

@@ -1,4 +1,7 @@
-"""The number of workers changes no byte: every command, with one worker and with many, over and over."""
+"""The number of workers changes no byte, over and over, of each command that takes workers.
+
+It is asked with 1 to 4, 8 and 32; of the last two, as many work as there are processors, but at least four.
+"""
 import os
 import shutil
 import tempfile
