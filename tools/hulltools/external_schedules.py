@@ -1,23 +1,31 @@
 """Schedules in megawatts from elsewhere: what each unit is to do, by its name."""
 from __future__ import annotations
 
-import csv
-import io
+import difflib
+import math
 import os
 import re
 from dataclasses import dataclass, field
-from decimal import Decimal
-from typing import Any, Dict, List, Tuple
+from datetime import datetime, timedelta
+from typing import Any, Dict, Iterable, List, Mapping, Optional, Sequence, Set, Tuple
 
-from .cases import Case
+from .cases import Bid, Case, Unit
 
 from .converters import unpacked
 from .converters.pypsa import solution
-from .json_texts import Refused, is_number, parse
-from .errors import HullError, one_line, refuse_more_cells, refuse_twice_named, rows_told_with
+from .converters.series import CELL
+from .inputs import GivenPowers, is_name, need_finite, need_keys, told
+from .json_texts import Refused, is_number, json_text, parse
+from .errors import HullError, named_rows, one_line, refuse_line_end, refuse_twice_named
+from .options import hint_of, told_value
+from .schedules import Schedule
 from .tables import as_it_was
 
 MOST_MEGAWATTS = 1_000_000
+KILOWATTS_FROM = 10  # times the most that a unit gives: a greater power isn't in megawatts
+FLAG_OFF = 0.01  # how far from 0 or 1 a solver may leave an on flag
+COLUMNS = ("unit", "period", "on", "power", "reserve")  # of a table
+NEAR = 0.75  # how like another name is that is most likely meant
 JULIA: Dict[str, Tuple[str, ...]] = {
     "on": ("Is on",),
     "power": ("Production (MW)", "Thermal production (MW)", "Profiled production (MW)"),
@@ -25,18 +33,37 @@ JULIA: Dict[str, Tuple[str, ...]] = {
 }
 EGRET: Dict[str, Tuple[str, ...]] = {"on": ("commitment",), "power": ("pg", "p"), "reserve": ("rg", "headroom")}
 PLAIN: Dict[str, Tuple[str, ...]] = {"on": ("on",), "power": ("power",), "reserve": ("reserve",)}
+KINDS = {  # of the units that a member of a file names
+    "thermal": "thermal",
+    "Thermal production (MW)": "thermal",
+    "renewable": "renewable",
+    "Profiled production (MW)": "renewable",
+    "bids": "bid",
+}
 
 
 @dataclass
 class Followed:
-    """Lists over the periods by a unit's name: on flags, powers and reserves in megawatts."""
+    """Lists over the periods by a unit's name: on flags, powers and reserves in megawatts; and kinds, as far as the form has them."""
 
     on: Dict[str, List[float]] = field(default_factory=dict)
     power: Dict[str, List[float]] = field(default_factory=dict)
     reserve: Dict[str, List[float]] = field(default_factory=dict)
+    kinds: Dict[str, str] = field(default_factory=dict)
+
+    @property
+    def names(self) -> Set[str]:
+        return {*self.on, *self.power, *self.reserve}
 
 
+Cells = Dict[str, Dict[str, Dict[int, float]]]  # numbers by what they are, unit and period
+FLAGS = {"True": 1.0, "False": 0.0, "TRUE": 1.0, "FALSE": 0.0}  # as pandas and spreadsheets write cells of `on`
 DIGITS = re.compile("[0-9]{1,18}")
+# A time with its offset from UTC, which goes back by an hour where summer ends; and one by a clock of 12 hours, which begins at 12.
+DATE, TIME = "([0-9]{4})-([0-9]{2})-([0-9]{2})", "([0-9]{2}):([0-9]{2})(?::([0-9]{2})(?:\\.0+)?)?"
+STAMP = re.compile(rf"{DATE}[T ]{TIME} ?(?:Z|([+-])([0-9]{{2}}):?([0-9]{{2}})?)(?:\[[^\]]*\])?")
+YEAR_FIRST, PLAIN_NUMBER = re.compile("[0-9]{4}"), re.compile("[0-9]+")  # keys whose numbers rise with the time
+TWELVE_HOURS = re.compile(r"(?<![a-z])[ap]\.?m\b", re.IGNORECASE)
 
 
 def number(value: Any, name: str, where: str) -> float:
@@ -51,17 +78,65 @@ def object_of(value: object, name: str, what: str) -> Dict[str, Any]:
     return value
 
 
+def instant_of(text: str) -> Optional[datetime]:
+    """The time in UTC that a text says with its offset; None where it isn't such a text."""
+    found = STAMP.fullmatch(text)
+    if not found:
+        return None
+    sign, hours, minutes = found[7] or "+", int(found[8] or 0), int(found[9] or 0)
+    try:
+        local = datetime(*(int(it or 0) for it in found.groups()[:6]))  # type: ignore[arg-type]
+        return local - (-1 if sign == "-" else 1) * timedelta(hours=hours, minutes=minutes)
+    except (ValueError, OverflowError):
+        return None
+
+
+def in_order_of_time(keys: List[str], where: str) -> List[str]:
+    """Periods or times as texts, the first one first; refused where it isn't sure which one that is."""
+    if not all(DIGITS.search(key) for key in keys):
+        raise HullError(f"{where}: a list is due, or numbers by period")
+    twelve = next((key for key in keys if TWELVE_HOURS.search(key)), None)
+    if twelve is not None:
+        raise HullError(f"{where}: {one_line(twelve)!r} is of a clock of 12 hours, and one of 24 hours is due")
+    instants = {key: instant_of(key) for key in keys}
+    known = {key: time for key, time in instants.items() if time is not None}
+    if known and len(known) < len(keys):
+        odd = next(key for key in keys if key not in known)
+        raise HullError(f"{where}: {one_line(odd)!r} has no offset from UTC, and other times have one")
+    digits = {key: list(map(int, DIGITS.findall(key))) for key in keys}
+    order = sorted(keys, key=lambda it: known[it]) if known else sorted(keys, key=lambda it: digits[it])
+    for one, other in zip(order, order[1:]):
+        if known[one] == known[other] if known else digits[one] == digits[other]:
+            raise HullError(f"{where}: {one_line(one)!r} and {one_line(other)!r} are one time")
+    # (the numbers of other texts need not rise with the time, as those of a day's hours do not at midnight)
+    is_sure = known or order == keys or all(map(YEAR_FIRST.match, keys)) or all(map(PLAIN_NUMBER.fullmatch, keys))
+    if not is_sure:
+        odd = next(key for key, other in zip(keys, order) if key != other)
+        due = "dates that begin with the year or whole numbers without a sign are due"
+        raise HullError(f"{where}: the order isn't sure from {one_line(odd)!r} on: {due}")
+    return order
+
+
 def numbers(value: Any, periods: int, name: str, where: str) -> List[float]:
-    """A list over the periods, plain or under `values` as egret has it, or by period as text, in the order of these texts' numbers."""
+    """A list over the periods, plain or under `values` as egret has it, or by period as text, in the order of time."""
     if isinstance(value, dict) and "values" in value:
         value = value["values"]
     if isinstance(value, dict):
-        if not all(DIGITS.search(key) for key in value):
-            raise HullError(f"{name}: {one_line(where)}: a list is due, or numbers by period")
-        value = [value[key] for key in sorted(value, key=lambda it: list(map(int, DIGITS.findall(it))))]
+        value = [value[key] for key in in_order_of_time(list(value), f"{name}: {one_line(where)}")]
     if not isinstance(value, list) or len(value) != periods:
         raise HullError(f"{name}: {one_line(where)}: a list of {periods} numbers is due")
     return [number(it, name, where) for it in value]
+
+
+def refuse_other_keys(lists: Mapping[str, Any], name: str, unit: str) -> None:
+    """Refuses lists of a unit by period or by time whose keys differ, as 1 to 4 and 0 to 3, since they would be matched by their places."""
+    plain = {key: it["values"] if isinstance(it, dict) and "values" in it else it for key, it in lists.items()}
+    keyed = [(key, it) for key, it in plain.items() if isinstance(it, dict)]
+    for key, numbers in keyed[1:]:
+        odd = next(iter(sorted(numbers.keys() ^ keyed[0][1].keys())), None)
+        if odd is not None:
+            first = f"{one_line(unit)}: {keyed[0][0]} and {key}"
+            raise HullError(f"{name}: {first} aren't of the same periods: {one_line(odd)!r} is in one of them alone")
 
 
 def units_of(value: Dict[str, Any], name: str) -> Tuple[Dict[str, Any], Dict[str, Tuple[str, ...]]]:
@@ -72,6 +147,9 @@ def units_of(value: Dict[str, Any], name: str) -> Tuple[Dict[str, Any], Dict[str
         turned: Dict[str, Any] = {}
         products = value.get("Spinning reserve (MW)")
         if isinstance(products, dict) and "Reserve (MW)" not in value:
+            if len(products) > 1:
+                several = f"{len(products)} products, {one_line(some(list(products)))}"
+                raise HullError(f"{name}: Spinning reserve (MW) has {several}, and one alone can be followed")
             reserve = object_of(next(iter(products.values()), {}), name, "Spinning reserve (MW)")
             value = {**value, "Reserve (MW)": reserve}
         for key, by_name in value.items():
@@ -81,8 +159,26 @@ def units_of(value: Dict[str, Any], name: str) -> Tuple[Dict[str, Any], Dict[str
     found: Dict[str, Any] = {}
     for group in ("thermal", "renewable", "bids"):
         for unit, row in object_of(value.get(group) or {}, name, group).items():
-            found[unit] = row if isinstance(row, dict) else {"power": row}
+            # (of a renewable unit or bid a row without these keys has the powers themselves: a list, by period or under `values`)
+            has_lists = isinstance(row, dict) and (group == "thermal" or not row or not row.keys().isdisjoint(PLAIN))
+            found[unit] = row if has_lists else {"power": row}
     return found, PLAIN
+
+
+def kinds_of(value: Dict[str, Any], name: str) -> Dict[str, str]:
+    """The kinds of units, as far as the form has them; two units of one name are refused, since the name tells which one a list is of."""
+    found: Dict[str, str] = {}
+    for group, kind in KINDS.items():
+        rows = value.get(group)
+        for unit in rows if isinstance(rows, dict) else ():
+            if found.setdefault(unit, kind) != kind:
+                raise HullError(mixed(name, unit, found[unit], kind))
+    return found
+
+
+def mixed(name: str, unit: str, one: str, other: str) -> str:
+    """Why a name of two kinds is refused."""
+    return f'{name}: "{one_line(unit)}" is both a {one} and a {other}, and units of a schedule to follow are told by their names alone'
 
 
 def followed_json(data: bytes, name: str, periods: int) -> Followed:
@@ -90,56 +186,161 @@ def followed_json(data: bytes, name: str, periods: int) -> Followed:
         value = parse(data)
     except Refused as why:
         raise HullError(f"{name}: no JSON text: {why}") from None
+    return followed_value(value, name, periods)
+
+
+def followed_dict(given: Dict[str, Any], name: str, periods: int) -> Followed:
+    """What a dict says, whose lists may be arrays or series."""
+    need_finite("powers", given)
+    try:
+        value = parse(json_text(given).encode())
+    except (Refused, RecursionError, TypeError, ValueError) as why:
+        raise HullError(f"{name} can't be a file: {why}") from None
+    if units_of(value, name)[1] is PLAIN:
+        need_keys("powers", given)
+    return followed_value(value, name, periods)
+
+
+def followed_value(value: Any, name: str, periods: int) -> Followed:
+    """What a JSON value says."""
     if not isinstance(value, dict):
         raise HullError(f"{name}: an object is due")
     units, keys = units_of(value, name)
-    found = Followed()
+    found = Followed(kinds=kinds_of(value, name))
     for unit, row in units.items():
+        lists: Dict[str, Any] = {}
         for what, names in keys.items():
             key = next((it for it in names if isinstance(row, dict) and it in row), None)
             if key is not None and isinstance(row[key], (list, dict)):
+                lists[key] = row[key]
                 getattr(found, what)[unit] = numbers(row[key], periods, name, f"{unit}, {key}")
+        refuse_other_keys(lists, name, unit)
     return found
 
 
 def followed_csv(data: bytes, name: str, periods: int) -> Followed:
     """Rows of unit, period from 1, on, power and reserve; the first row names the columns, in any order."""
-    reader = csv.DictReader(io.StringIO(data.decode("utf-8-sig"), newline=""))
-    with rows_told_with(name):
-        rows = list(reader)
-    if not {"unit", "period", "power"} <= set(reader.fieldnames or ()):
+    columns, rows = named_rows(data.decode("utf-8-sig"), name)
+    if not {"unit", "period", "power"} <= set(columns):
         raise HullError(
             f"{name}: the first line has to name the columns unit, period, on, power, reserve, with commas between them"
         )
-    refuse_twice_named(reader.fieldnames, name)
+    for line, row in rows:
+        for column in (it for it in columns if it != "unit"):
+            refuse_line_end(row[column], f"{name}, line {line}")
+        row["unit"] = as_it_was(row["unit"])
+    return followed_rows(((f"{name}, line {line}", row) for line, row in rows), name, periods)
+
+
+def refuse_misspelt(columns: List[Any], name: str) -> None:
+    """Refuses a column that is skipped, and whose name is near to that of one that isn't there."""
+    absent = [column for column in COLUMNS if column not in columns]
+    for column in columns:
+        near = difflib.get_close_matches(str(column).casefold(), absent, 1, NEAR) if column not in COLUMNS else []
+        if near:
+            raise HullError(f"{name}: `{told_value(column)}` is no column of it: is `{near[0]}` meant?")
+
+
+def followed_frame(frame: Any, name: str, periods: int) -> Followed:
+    """What a data frame says, whose columns are those of a csv; a number that isn't there is an empty cell."""
+    refuse_misspelt(list(frame.columns), name)
+    missing = [column for column in ("unit", "period", "power") if column not in frame.columns]
+    if missing:
+        raise HullError(f"{name} has no column `{missing[0]}`: unit, period, on, power and reserve are its columns")
+    refuse_twice_named([column for column in frame.columns if column in COLUMNS], name)
+    known = frame[[column for column in COLUMNS if column in frame.columns]]
+    cells = known.astype(object).where(known.notna(), None)
+    return followed_rows(
+        ((f"{name}, row {place}", row) for place, row in enumerate(cells.to_dict("records"), 1)), name, periods
+    )
+
+
+def followed_schedule(schedule: Schedule, name: str, periods: int) -> Followed:
+    """What a schedule in whole kilowatts says, in megawatts."""
     found = Followed()
-    seen: set[Tuple[str, str]] = set()
-    for line, row in enumerate(rows, 2):
-        refuse_more_cells(row, f"{name}, line {line}")
-        if (row["unit"], row["period"]) in seen:
-            raise HullError(f"{name}, line {line}: a second row of this unit and period")
-        seen.add((row["unit"], row["period"]))
-        try:
-            period = int(row["period"])
-            for what in ("on", "power", "reserve"):
-                if row.get(what) not in (None, ""):
-                    value = float(row[what])
-                    if not abs(value) <= MOST_MEGAWATTS:
-                        raise ValueError(value)
-                    getattr(found, what).setdefault(as_it_was(row["unit"]), [0.0] * periods)[period - 1] = value
-        except (ValueError, IndexError, TypeError):
-            raise HullError(f"{name}, line {line}: no row of unit, period from 1 to {periods}, and numbers") from None
-        if not 1 <= period <= periods:
-            raise HullError(f"{name}, line {line}: period {period} isn't one of 1 to {periods}")
+    for (kind, unit), plan in schedule.with_lists().plans.items():
+        if found.kinds.setdefault(unit, kind) != kind:
+            raise HullError(mixed(name, unit, found.kinds[unit], kind))
+        if not len(plan.on) == len(plan.power) == len(plan.reserve) == periods:
+            raise HullError(f"{name}: {one_line(unit)}: lists of {periods} numbers are due", unit=unit)
+        found.power[unit] = [power / 1e3 for power in plan.power]
+        if kind == "thermal":
+            found.on[unit] = [float(on) for on in plan.on]
+            found.reserve[unit] = [reserve / 1e3 for reserve in plan.reserve]
     return found
 
 
-def network_numbers(row: list[str], folder: str, unit: str) -> list[float]:
-    """The numbers of a column of a network's table; what is empty is 0."""
+def followed_rows(rows: Iterable[Tuple[str, Mapping[str, Any]]], name: str, periods: int) -> Followed:
+    """What the rows of a table say, each with what an error calls it."""
+    cells: Cells = {what: {} for what in PLAIN}
+    seen: Set[Tuple[str, int]] = set()
+    for where, row in rows:
+        place = add_row(cells, row, where, periods)
+        if place in seen:
+            raise HullError(f"{where}: a second row of this unit and period")
+        seen.add(place)
+    lists = {
+        what: {unit: whole_list(cells, what, unit, name, periods) for unit in by_unit}
+        for what, by_unit in cells.items()
+    }
+    return Followed(lists["on"], lists["power"], lists["reserve"])
+
+
+def float_of_cell(cell: Any) -> float:
+    """A cell's number; Python would take `1_0` and digits of other scripts too."""
+    if isinstance(cell, str) and not CELL.fullmatch(cell.strip(" \t")):
+        raise ValueError(cell)
+    return float(cell)
+
+
+def period_of(cell: Any) -> int:
+    if isinstance(cell, str) and not re.fullmatch("[0-9]{1,9}", cell.strip(" \t")):
+        raise ValueError(cell)
+    period = int(cell)
+    if not isinstance(cell, str) and period != cell:
+        raise ValueError(cell)
+    return period
+
+
+def add_row(cells: Cells, row: Mapping[str, Any], where: str, periods: int) -> Tuple[str, int]:
+    """Adds the numbers of a row, whose unit and period these are."""
+    column = "period"
     try:
-        return [number(Decimal(it or 0), folder, unit) for it in row]
-    except ArithmeticError:
-        raise HullError(f"{folder}: {one_line(unit)}: a number of at most {MOST_MEGAWATTS:,} is due") from None
+        unit, period = str(row["unit"]), period_of(row["period"])
+        for column in cells:
+            given: Any = row.get(column)
+            if given not in (None, ""):
+                value = FLAGS[given] if column == "on" and given in FLAGS else float_of_cell(given)
+                if not abs(value) <= MOST_MEGAWATTS:
+                    raise ValueError(value)
+                cells[column].setdefault(unit, {})[period] = value
+    except (ValueError, TypeError, OverflowError):
+        bad = f"`{column}` is {told_value(row.get(column))}"
+        raise HullError(f"{where}: no row of unit, period from 1 to {periods}, and numbers: {bad}") from None
+    if not 1 <= period <= periods:
+        raise HullError(f"{where}: period {period} isn't one of 1 to {periods}")
+    return unit, period
+
+
+def whole_list(cells: Cells, what: str, unit: str, name: str, periods: int) -> List[float]:
+    """A unit's numbers over the periods; an empty cell is 0 where the unit is off, and a gap otherwise, which is refused."""
+    found = cells[what][unit]
+    off = {t for t, on in cells["on"].get(unit, {}).items() if on <= 0.5 and what != "on"}
+    gap = next((t for t in range(1, periods + 1) if t not in found and t not in off), None)
+    if gap is not None:
+        raise HullError(f'{name}: unit "{one_line(unit)}" has no {what} in period {gap}, and it has one in others')
+    return [found.get(t, 0.0) for t in range(1, periods + 1)]
+
+
+def network_numbers(row: list[str], folder: str, unit: str) -> list[float]:
+    """The numbers of a column of a network's table."""
+    try:
+        found = [float_of_cell(it) for it in row]
+    except ValueError:
+        found = [math.inf]
+    if not all(abs(it) <= MOST_MEGAWATTS for it in found):
+        raise HullError(f"{folder}: {one_line(unit)}: a number of at most {MOST_MEGAWATTS:,} is due")
+    return found
 
 
 def followed_network(folder: str, periods: int) -> Followed:
@@ -162,22 +363,105 @@ def followed_file(name: str, periods: int) -> Followed:
         return (followed_json if is_json else followed_csv)(data, name, periods)
     except UnicodeDecodeError:
         raise HullError(f"{name}: it isn't UTF-8") from None
-    except csv.Error as why:
-        raise HullError(f"{name}: no csv text: {why}") from None
 
 
 def strangers(followed: Followed, case: Case) -> List[str]:
     """The names of units that the case hasn't, and which nothing follows."""
-    known = {it.name for it in case.thermal} | {it.name for it in case.renewable} | {it.name for it in case.bids}
-    return sorted({*followed.on, *followed.power, *followed.reserve} - known)
+    return sorted(followed.names - {unit.name for _, unit in case.units})
 
 
-def read_followed(name: str, case: Case) -> Followed:
-    """What a schedule from elsewhere says. Units that the case hasn't are skipped; `strangers` names them."""
+def free_units(followed: Followed, case: Case) -> List[str]:
+    """The names of the units and bids whose powers the schedule from elsewhere hasn't."""
+    return [unit.name for _, unit in case.units if unit.name not in followed.power]
+
+
+def some(names: Sequence[str]) -> str:
+    """The first of the names."""
+    return f"{', '.join(names[:3])}{', ..' * (len(names) > 3)}"
+
+
+def refuse_mixed(followed: Followed, case: Case, name: str) -> None:
+    """Refuses a name that two units of the case have, or one that is of another kind there."""
+    kinds = dict(followed.kinds)
+    seen: Set[str] = set()
+    for kind, unit in case.units:
+        if unit.name in followed.names and (unit.name in seen or kinds.get(unit.name, kind) != kind):
+            raise HullError(mixed(name, unit.name, kinds[unit.name], kind))
+        seen.add(unit.name)
+        kinds.setdefault(unit.name, kind)
+
+
+def read_followed(name: str, case: Case, hint: str = "") -> Followed:
+    """What a schedule from elsewhere says. Units that the case hasn't are skipped; `strangers` names them. Kilowatts are refused with the hint."""
     found = (followed_network if os.path.isdir(name) else followed_file)(name, case.periods)
+    return with_flags(found, case, name, hint)
+
+
+def schedule_in(given: object) -> Optional[Schedule]:
+    """The schedule that is given, or that what is given has, as `Made`."""
+    kept = (it for it in (given, getattr(given, "schedule", None)) if isinstance(it, Schedule))
+    return next(kept, None)
+
+
+def as_followed(given: GivenPowers, case: Case) -> Tuple[Followed, str]:
+    """What a data frame, a schedule, a dict or a file says, and what an error calls it."""
+    if is_name(given):
+        return read_followed(os.fspath(given), case, " (read_schedule reads a schedule of hull)"), os.fspath(given)
+    name, schedule = told("powers"), schedule_in(given)
+    if schedule is not None:
+        found = followed_schedule(schedule, name, case.periods)
+    elif isinstance(given, dict):
+        found = followed_dict(given, name, case.periods)
+    elif hasattr(given, "columns") and hasattr(given, "to_dict"):
+        found = followed_frame(given, name, case.periods)
+    else:
+        due = "a data frame, a schedule, a dict or a file's name is due"
+        raise HullError(f"{name}: no `{type(given).__name__}` can be taken: {due}")
+    stranger = next(iter(strangers(found, case)), None)
+    if stranger is not None:
+        names = [unit.name for _, unit in case.units]
+        raise HullError(
+            f"{name}: the case has no unit {told_value(stranger)}: {hint_of(stranger, names)}", unit=stranger
+        )
+    return with_flags(found, case, name), name
+
+
+def most_of(unit: Unit) -> int:
+    """The most that a unit gives or a bid buys in any period, in kilowatts."""
+    if isinstance(unit, Bid):
+        return max((sum(width for width, _ in blocks) for blocks in unit.blocks), default=0)
+    return max(unit.most, default=0) if isinstance(unit.most, list) else unit.most
+
+
+def refuse_kilowatts(followed: Followed, case: Case, name: str, hint: str) -> None:
+    """Refuses a power that is far above the most of its unit, since it is most likely in kilowatts."""
+    for kind, unit in case.units:
+        most = most_of(unit) / 1e3
+        for t, power in enumerate(followed.power.get(unit.name, ()), 1):
+            if most and power > KILOWATTS_FROM * most:
+                told = f"power {power:.10g} MW of {one_line(unit.name)} in period {t}, and it {'buys' if kind == 'bid' else 'gives'}"
+                why = f"{name}: {told} at most {most:g} MW: is it in kilowatts?{hint}"
+                raise HullError(why, unit=unit.name, period=t)
+
+
+def refuse_no_flag(followed: Followed, unit: str, name: str) -> None:
+    """Refuses an on flag that is far from 0 and 1, since it is no commitment, as of a relaxation or of a count of units."""
+    for t, on in enumerate(followed.on.get(unit, ()), 1):
+        if min(abs(on), abs(on - 1)) > FLAG_OFF:
+            why = f'{name}: the on flag of unit "{one_line(unit)}" in period {t} is {on:.10g}, and 0 or 1 is due'
+            raise HullError(why, unit=unit, period=t)
+
+
+def with_flags(found: Followed, case: Case, name: str, hint: str = "") -> Followed:
+    """The same, with on flags for each thermal unit that has powers; refused where it has neither, or where powers are in kilowatts."""
+    refuse_mixed(found, case, name)
+    refuse_kilowatts(found, case, name, hint)
     for unit in case.thermal:
+        refuse_no_flag(found, unit.name, name)
         if unit.name not in found.on and unit.name in found.power:
             found.on[unit.name] = [float(power > 1e-6 or unit.must_run) for power in found.power[unit.name]]
+        if unit.name not in found.names:
+            raise HullError(f'{name}: it has no rows of thermal unit "{one_line(unit.name)}"', unit=unit.name)
         if unit.name not in found.on:
             raise HullError(f'{name}: it has no on flags of thermal unit "{one_line(unit.name)}"')
     return found

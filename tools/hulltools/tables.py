@@ -42,18 +42,18 @@ FORMULA, MARK = re.compile(PLACE + BEGUN), re.compile(f"{PLACE}'{BEGUN}")
 class Table:
     """A table that is filled row by row. `heads` are names, with the unit behind a colon where there is one.
 
-    `money_name` stands in the heads for the currency.
+    `money_name` stands in the heads for the currency. It is any text, so a colon before anything else than a unit is part of a name.
     """
 
     heads: list[str]
     rows: list[list[Cell]]
 
     def __init__(self, heads: Sequence[str], currency: bool, money_name: str = "currency") -> None:
-        self.units = [it.partition(":")[2] for it in heads]
-        named = (it.partition(":") for it in heads)
+        named = [head_and_unit(head) for head in heads]
+        self.units = [unit for _, unit in named]
         ends = {unit: in_currency if currency else exact for unit, (_, exact, in_currency) in UNITS.items()}
         told = {unit: end.replace("currency", money_name) for unit, end in ends.items()}
-        self.heads = [f"{name}_{told[unit]}" if unit else name for name, _, unit in named]
+        self.heads = [f"{name}_{told[unit]}" if unit else name for name, unit in named]
         self.currency = currency
         self.rows = []
 
@@ -67,16 +67,24 @@ class Table:
 
     def text(self, names_as_they_are: bool = False, is_shown: bool = False) -> str:
         """The table as comma separated values; shown at a terminal, a text is one line of what is printable."""
-        rows = self.rows if names_as_they_are else [[told_apart(cell) for cell in row] for row in self.rows]
+        rows: list[list[Cell]] = [[*self.heads], *self.rows]  # (a head has the currency's name, which is any text)
+        if not names_as_they_are:
+            rows = [[told_apart(cell) for cell in row] for row in rows]
         if is_shown:
             rows = [[one_line(cell) if isinstance(cell, str) else cell for cell in row] for row in rows]
         into = io.StringIO()
-        csv.writer(into).writerows([self.heads, *rows])
+        csv.writer(into).writerows(rows)
         return into.getvalue()
 
     def write(self) -> None:
         """Writes it to standard output."""
         write_text(self.text(is_shown=is_shown()))
+
+
+def head_and_unit(head: str) -> tuple[str, str]:
+    """The name in a head, and the unit behind its last colon; an empty text where none is there."""
+    name, _, unit = head.rpartition(":")
+    return (name, unit) if unit in UNITS else (head, "")
 
 
 def told_apart(cell: Cell) -> Cell:
@@ -97,6 +105,7 @@ def told_apart_count(tables: dict[str, Table]) -> int:
 
 PER_MW = "_currency_per_mw"
 MOST_HOURS = 10_000
+DAY_FIRST = re.compile(r"\s*\d{1,2}[-/. ]\d{1,2}[-/. ]\d")  # a day and a month, or a month and a day
 NUMBERS = ("budget", "ahead", "proposals", "chosen", "proposal", "periods", "units", "scheduled_on")  # without an end
 HEADS = {
     "runs": "report command side periods units budget ahead proposals chosen cost:money value:money payments:money "
@@ -176,6 +185,15 @@ def add_fixed(tables: dict[str, Table], fixed: Fixed, case: Optional[Case]) -> N
             tables["units"].add(fixed.name, name, kind, unit, None, None, payment, None, None)
 
 
+def load_pandas() -> Any:
+    """Pandas, which is loaded with the first data frame. Raises `HullError` where it isn't there."""
+    try:
+        import pandas
+    except ImportError:
+        raise HullError("data frames need pandas (Debian: python3-pandas)") from None
+    return pandas
+
+
 def frames_of(
     tables: dict[str, Table], start: Optional[Start] = None, hours_per_period: SupportsFloat = 1
 ) -> dict[str, "DataFrame"]:
@@ -184,10 +202,7 @@ def frames_of(
     With a start, rows of periods are indexed by time. With a length of periods other than an hour, prices per MWh stand behind the others.
     """
     hours = number_option("hours_per_period", hours_per_period, 0, MOST_HOURS, above=True)
-    try:
-        import pandas
-    except ImportError:
-        raise HullError("data frames need pandas (Debian: python3-pandas)") from None
+    pandas = load_pandas()
     found = {}
     for name, table in tables.items():
         columns = zip(table.heads, table.units, zip(*table.rows)) if table.rows else ()
@@ -205,11 +220,13 @@ def frames_of(
 
 def start_of(pandas: Any, start: Start) -> Any:
     """When the first period begins, as pandas has it."""
+    # (of a text with the day first pandas would warn, on standard error)
+    is_none = is_number_text(start) or isinstance(start, str) and DAY_FIRST.match(start)
     try:
-        found = pandas.Timestamp(start)
+        found = pandas.NaT if is_none else pandas.Timestamp(start)
     except (TypeError, ValueError):
         found = pandas.NaT
-    if found is pandas.NaT or is_number_text(start):
+    if found is pandas.NaT:
         raise HullError(f"start is {told_value(start)}: a time is due, as 2026-07-01T00:00")
     return found
 

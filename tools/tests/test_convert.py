@@ -1,22 +1,26 @@
 """tools/convert.py: CSV folders in and out, and other programs' instances in, whose files here were made by hand."""
 from __future__ import annotations
 
-import csv
+import gzip
 import json
 import os
 import random
+import re
 import shutil
 import subprocess
+import sys
 import tempfile
 import time
 import unittest
 from typing import Any, Dict, List, Tuple
+from unittest import mock
 
 import market
 import other_forms
-from tool import EXAMPLES, PROGRAM, run
+from tool import EXAMPLES, PROGRAM, ROOT, run
 
 from hulltools.cases import read_case
+from hulltools.converters.csv_folder import write_csv
 from hulltools.study_folder import SUMS
 from hulltools.tables import as_it_was, told_apart
 
@@ -150,6 +154,18 @@ class Csv(WithRoom):
             told, "left out: thermal_generators: the field `owner` (1: GT5)\nleft out: the case: the field `note`\n"
         )
 
+    def test_files_of_other_names_are_refused_or_told(self) -> None:
+        folder = self.folder()
+        for name, due in (("Bids.csv", "bids.csv"), ("start.csv", "starts.csv"), ("windows.CSV", "windows.csv")):
+            self.write(f"csv/{name}", "")
+            told = self.convert(folder, f"{self.room}/back.json", status=1)[1]
+            self.assertEqual(told, f"convert.py: csv/{name}: is it {due}? Name it so, or move it away\n")
+            os.remove(f"{folder}/{name}")
+        for name in ("plants.csv", "._units.csv", "notes.txt"):
+            self.write(f"csv/{name}", "")
+        told = self.convert(folder, f"{self.room}/back.json")[0]
+        self.assertEqual(told, "left out: the file ._units.csv\nleft out: the file plants.csv\n")
+
     def test_no_file_that_is_read_is_replaced(self) -> None:
         folder = self.folder()
         before = self.read(f"{folder}/units.csv")
@@ -173,6 +189,26 @@ class Csv(WithRoom):
         self.convert(f"{EXAMPLES}/usual/case.json", folder)
         self.assertIn("G1,8.0,800.0", self.read(f"{folder}/offers.csv"))
         self.assertEqual(self.read(precious), "mine\n")
+
+    def test_what_is_left_out_is_written_with_the_case_or_not_at_all(self) -> None:
+        case, left = self.write("case.json", market.text(market.case())), f"{self.room}/left.json"
+        self.write("file", "")
+        for to in ("nodir/x.json", "file/csv"):
+            self.convert(case, f"{self.room}/{to}", "--left-out", left, status=1)
+            self.assertFalse(os.path.exists(left), to)
+        for to in ("x.json", "csv"):
+            self.convert(case, f"{self.room}/{to}", "--left-out", f"{self.room}/nodir/left.json", status=1)
+            self.assertFalse(os.path.exists(f"{self.room}/{to}"))
+            self.convert(case, f"{self.room}/{to}", "--left-out", left)
+            self.assertTrue(os.path.exists(left) and os.path.exists(f"{self.room}/{to}"))
+            os.remove(left)
+
+    def test_no_empty_folder_is_left_where_nothing_can_be_written(self) -> None:
+        folder = mock.patch("hulltools.study_folder.write_together", side_effect=OSError(28, "No space left on device"))
+        case = market.case()
+        with folder, self.assertRaises(OSError):
+            write_csv(f"{self.room}/csv", case, [])
+        self.assertFalse(os.path.exists(f"{self.room}/csv"))
 
     def test_the_case_and_what_is_left_out_need_a_file_each(self) -> None:
         case = f"{EXAMPLES}/usual/case.json"
@@ -202,6 +238,16 @@ class Csv(WithRoom):
         self.assertEqual(self.read(f"{self.room}/1.json"), self.read(f"{self.room}/2.json"))
         self.assertEqual(read_case(f"{self.room}/1.json"), read_case(f"{self.room}/case.json"))
 
+    def test_a_file_that_may_not_grow_is_named(self) -> None:
+        case = self.write("case.json", market.text(market.case()))
+        small = f"ulimit -f 1; exec {sys.executable} -B {ROOT}/tools/convert.py {case} {self.room}/to"
+        ran = subprocess.run(
+            ["bash", "-c", small], env={**os.environ, "TMPDIR": self.room}, capture_output=True, text=True
+        )
+        self.assertEqual((ran.returncode, ran.stdout), (1, ""))
+        self.assertRegex(ran.stderr, rf"\Aconvert\.py: {self.room}/hull-convert-[^/]*/case\.json: File too large\n\Z")
+        self.assertEqual(os.listdir(self.room), ["case.json"])
+
     def test_a_long_name_is_looked_through_once(self) -> None:
         began = time.process_time()
         for text in (" \t" * 100_000, "; " * 100_000, " " * 200_000, "'\t" * 100_000, " \t'" * 100_000):
@@ -212,7 +258,56 @@ class Csv(WithRoom):
         folder = self.folder()
         self.write("csv/offers.csv", self.read(f"{folder}/offers.csv") + '"' + "GT5,20,1\n" * 20_000)
         told = self.convert(folder, f"{self.room}/back.json", status=1)[1]
-        self.assertIn("convert.py: csv/offers.csv: no table of comma separated values: field larger", told)
+        self.assertIn("convert.py: csv/offers.csv, line 20: no row of comma separated values: field larger", told)
+
+    def test_a_quote_too_many_swallows_no_rows(self) -> None:
+        end, several = "no row of comma separated values: a quote is without an end", "a line's end stands in a cell."
+        for file, old, new, told in (
+            ("offers.csv", "GT5,20,", '"GT5,20,', f"offers.csv, line 14: {end}"),
+            ("units.csv", "unit,", '"unit,', f"units.csv, line 1: {end}"),
+            (
+                "offers.csv",
+                "\nGT5,20,",
+                '\n"GT5,"20,',
+                "offers.csv, line 14: no row of comma separated values: ',' expected",
+            ),
+            ("offers.csv", "2112.0", '"2112.0\n"', f"offers.csv, line 14: {several}"),
+            ("hours.csv", "\n3,", '\n"3\r",', f"hours.csv, line 4: {several}"),
+        ):
+            self.assertIn(told, self.refused(file, old, new))
+
+    def test_a_period_stands_once(self) -> None:
+        folder = self.folder()
+        for second in ("1,0", "1.0,1", "1,"):
+            self.write("csv/windows.csv", f"unit,period,commitment\nGT5,1,1\nGT6,1,1\nGT5,{second}\n")
+            told = self.convert(folder, f"{self.room}/back.json", status=1)[1]
+            self.assertEqual(told, 'convert.py: csv/windows.csv, line 4: the unit "GT5" has period 1 twice\n')
+
+    def test_points_and_commas_in_files_with_semicolons(self) -> None:
+        folder = self.folder()
+        for file in set(os.listdir(folder)) - {SUMS}:
+            text = self.read(f"{folder}/{file}").replace(",", ";").replace(".", ",")
+            self.write(f"csv/{file}", text.replace("\n3;", "\n3;1.") if file == "hours.csv" else text)
+        told = self.convert(folder, f"{self.room}/back.json", status=1)[1]
+        self.assertIn("convert.py: csv/hours.csv, line 4: demand is '1.", told)
+        self.assertIn("not both are taken", told)
+        self.assertEqual(told.count("\n"), 1)
+
+    def test_commas_that_may_part_thousands(self) -> None:
+        folder = self.folder()
+        for file in set(os.listdir(folder)) - {SUMS}:
+            text = re.sub(r"\.[0-9]+", "", self.read(f"{folder}/{file}")).replace(",", ";")
+            self.write(f"csv/{file}", text.replace(";20;2112\n", ";20;2,112\n"))
+        told = self.convert(folder, f"{self.room}/back.json", status=1)[1]
+        why = "each comma of this folder may be one of decimals or of thousands: write numbers with points"
+        self.assertEqual(told, f"convert.py: csv/offers.csv, line 14: {why}\n")
+        hours = self.read(f"{folder}/hours.csv")
+        for sure in ("0,500", "12,5", "1234,500"):
+            self.write("csv/hours.csv", re.sub(r"\n3;[^;]*;", f"\n3;{sure};", hours))
+            self.convert(folder, f"{self.room}/back.json")
+            self.assertEqual(
+                json.loads(self.read(f"{self.room}/back.json"))["demand"][2], float(sure.replace(",", "."))
+            )
 
     def test_all_files_of_a_folder_are_written_or_none(self) -> None:
         folder = self.folder()
@@ -326,6 +421,84 @@ class Others(WithRoom):
         ):
             self.assertIn(line, told)
 
+    def test_flags_of_unit_commitment_jl(self) -> None:
+        def change(value: Dict[str, Any]) -> None:
+            units = value["Generators"]
+            units["COAL1"].update({"Must run?": 1, "Type": "Hydro"})
+            units["COAL2"].update({"Must run?": None, "Commitment status": [0, 1, True, False] + [None] * 20})
+            units["GT5"]["Must run?"] = [True] * 2 + [None] * 22
+
+        case, told = self.changed_instance(change)
+        units = case["thermal_generators"]
+        self.assertEqual([units[it]["must_run"] for it in ("COAL1", "COAL2", "GT5")], [1, 0, 0])
+        self.assertEqual(units["COAL2"]["commitment"][:5], [0, 1, 1, 0, None])
+        self.assertEqual(units["GT5"]["commitment"][:3], [1, 1, None])
+        due = "changed: generators that are neither thermal nor profiled are taken as thermal units (1: COAL1)\n"
+        self.assertIn(due, told)
+
+    def refused_value(self, value: Dict[str, Any]) -> str:
+        other_forms.write_json(f"{self.room}/odd.json", value)
+        return self.convert(f"{self.room}/odd.json", f"{self.room}/none.json", status=1)[1]
+
+    def test_what_is_no_flag_is_refused(self) -> None:
+        for form, group, key, item in (
+            (other_forms.unit_commitment_jl, "Generators", "Commitment status", ["0"] * 24),
+            (other_forms.unit_commitment_jl, "Generators", "Commitment status", [0.5] * 24),
+            (other_forms.unit_commitment_jl, "Generators", "Must run?", "true"),
+            (other_forms.unit_commitment_jl, "Generators", "Must run?", 2),
+            (other_forms.unit_commitment_jl, "Generators", "Must run?", ["false"] * 24),
+            (other_forms.unit_commitment_jl, "Generators", "Provides spinning reserves?", "no"),
+            (other_forms.egret, "generator", "in_service", "false"),
+            (other_forms.egret, "generator", "in_service", [True]),
+            (other_forms.egret, "generator", "in_service", other_forms.over_time([1] * 24)),
+            (other_forms.egret, "generator", "in_service", 2),
+            (other_forms.egret, "load", "in_service", "0"),
+            (other_forms.egret, "generator", "fixed_commitment", 0.5),
+            (other_forms.egret, "generator", "fixed_commitment", ["1"] * 24),
+        ):
+            value = form()
+            units = value.get(group) or value["elements"][group]
+            units["L1" if group == "load" else "GT5"][key] = item
+            told = self.refused_value(value)
+            self.assertRegex(told, rf'\Aconvert\.py: .*"(L1|GT5)", {key[:8]}.*: true, false, 0 or 1 is due, and .*\n\Z')
+        value = other_forms.unit_commitment_jl()
+        value["Generators"]["GT5"]["Must run?"] = [True] * 23
+        self.assertIn('"GT5", Must run? isn\'t a list of 24 items', self.refused_value(value))
+        value["Generators"]["GT5"].update({"Must run?": [True] * 24, "Commitment status": [1, 0] * 12})
+        self.assertIn('"GT5": it must run in period 2, and its status is 0 there', self.refused_value(value))
+
+    def test_what_is_in_service(self) -> None:
+        for item, is_there in ((0, False), (False, False), (1, True), (1.0, True), (True, True), (None, True)):
+            value = other_forms.egret()
+            value["elements"]["generator"]["GT5"]["in_service"] = item
+            value["elements"]["load"]["L2"] = {"in_service": item, "p_load": 1}
+            other_forms.write_json(f"{self.room}/model.json", value)
+            told, _ = self.convert(f"{self.room}/model.json", f"{self.room}/case.json")
+            case = json.loads(self.read(f"{self.room}/case.json"))
+            self.assertEqual("GT5" in case["thermal_generators"], is_there)
+            self.assertEqual(case["demand"][0], market.case()["demand"][0] + 70 + is_there)
+            self.assertEqual("left out: generators that aren't in service (1: GT5)\n" in told, not is_there)
+
+    def test_a_time_step_of_nothing(self) -> None:
+        value = other_forms.unit_commitment_jl()
+        value["Parameters"]["Time step (min)"] = 0
+        self.assertIn("Parameters: a time step is to be above 0", self.refused_value(value))
+
+    def test_times_of_unit_commitment_jl(self) -> None:
+        value = other_forms.unit_commitment_jl()
+        value["Parameters"]["Time horizon (min)"] = 1440
+        due = "convert.py: Parameters: the time horizon stands twice, in hours and in minutes\n"
+        self.assertEqual(self.refused_value(value), due)
+        for key, time_in_hours, why in (
+            ("Minimum uptime (h)", -3, "a time is at least 0, and -3 is found"),
+            ("Startup delays (h)", [-0.5, 8], "a time is at least 0, and -0.5 is found"),
+            ("Initial status (h)", 0, "it is above 0 of a unit that is on, and below 0 of one that is off"),
+        ):
+            value = other_forms.unit_commitment_jl()
+            value["Generators"]["COAL1"].update({"Startup costs ($)": [1, 2], "Startup delays (h)": [1, 8]})
+            value["Generators"]["COAL1"][key] = time_in_hours
+            self.assertEqual(self.refused_value(value), f"convert.py: COAL1, {key}: {why}\n")
+
     def test_half_hours_of_unit_commitment_jl(self) -> None:
         def change(value: Dict[str, Any]) -> None:
             value["Parameters"].update({"Time horizon (h)": 12, "Time step (min)": 30})
@@ -391,6 +564,27 @@ class Others(WithRoom):
         ):
             self.assertIn(f"{line}\n", told)
 
+    def test_a_generator_of_egret_has_a_cost(self) -> None:
+        value = other_forms.egret()
+        unit = value["elements"]["generator"]["GT5"]
+        unit.update(p_cost=0, fuel_cost=4)
+        other_forms.write_json(f"{self.room}/model.json", value)
+        told, _ = self.convert(f"{self.room}/model.json", f"{self.room}/case.json")
+        self.assertIn("left out: fuel_cost of generators whose costs are in money (1: GT5)\n", told)
+        due = 'convert.py: generator "GT5": it has neither p_cost nor p_fuel; a p_cost of 0 is taken\n'
+        for cost in ({"p_cost": None}, {"p_cost": None, "p_fuel": None, "fuel_cost": 4}):
+            unit.update(cost)
+            self.assertEqual(self.refused_value(value), due)
+
+    def test_output_of_a_unit_of_egret_that_is_off(self) -> None:
+        for status in (-3, None):
+            value = other_forms.egret()
+            value["elements"]["generator"]["GT5"].update(initial_status=status, initial_p_output=20)
+            other_forms.write_json(f"{self.room}/model.json", value)
+            told, _ = self.convert(f"{self.room}/model.json", f"{self.room}/case.json")
+            due = "changed: initial_p_output of a unit that is off before period 1 is taken as 0 (1: GT5)\n"
+            self.assertIn(due, told)
+
     def test_pypsa(self) -> None:
         other_forms.pypsa(f"{self.room}/network")
         told, _ = self.convert(f"{self.room}/network", f"{self.room}/case.json", "--left-out", f"{self.room}/left.json")
@@ -450,6 +644,9 @@ class Others(WithRoom):
                 "generator \"CCGT3\", p_nom: a number is due, and 'much' is found",
             ),
             ("generators-p_max_pu.csv", "30 05:", "30 04:", "a name of the first column stands twice"),
+            ("generators-p_max_pu.csv", "WIND1", "WIND2", "the column 'WIND2' stands twice"),
+            ("generators.csv", "COAL2,b1", 'COAL2,"b1', "line 3: no row of comma separated values: a quote is without"),
+            ("generators.csv", "COAL2,b1", 'COAL2,"b\n1"', "line 3: a line's end stands in a cell."),
             (
                 "loads-p_set.csv",
                 "2026-11-30 23:",
@@ -458,6 +655,30 @@ class Others(WithRoom):
             ),
         ):
             self.assertIn(due, self.network(file, (old, new), status=1)[1])
+
+    def test_what_pypsa_has_no_power_of_is_told(self) -> None:
+        for file, old, new, due in (
+            ("loads.csv", "b2,70", "b2,", "assumed: a load without p_set takes nothing (1: L2)"),
+            (
+                "generators.csv",
+                "WIND1,b2,100",
+                "WIND1,b2,",
+                "assumed: a generator without p_nom gives nothing (1: WIND1)",
+            ),
+            (
+                "loads-p_set.csv",
+                ",L1",
+                ",L9",
+                "left out: columns of loads-p_set.csv that have no row in loads.csv (1: L9)",
+            ),
+            (
+                "generators-p_max_pu.csv",
+                "WIND1",
+                "WIND9",
+                "left out: columns of generators-p_max_pu.csv that have no row in generators.csv (1: WIND9)",
+            ),
+        ):
+            self.assertIn(f"{due}\n", self.network(file, (old, new))[0])
 
     def test_cells_of_pypsa_that_are_no_number_to_work_with(self) -> None:
         head = "name,bus,p_nom,marginal_cost,committable,min_up_time,ramp_limit_up\n"
@@ -515,6 +736,118 @@ class Others(WithRoom):
         told = self.convert(f"{self.room}/net", f"{self.room}/case.json")[0]
         for key in ("min_up_time", "min_down_time"):
             self.assertIn(f"changed: {key} that isn't whole is cut to a whole number of snapshots (1: g)\n", told)
+
+    def small_network(self, generators: str, snapshots: str = "snapshot,objective\n0,1\n1,1\n", status: int = 0) -> Any:
+        """What is told of a network of a load and these generators, and its case."""
+        os.makedirs(f"{self.room}/net", exist_ok=True)
+        self.write("net/snapshots.csv", snapshots)
+        self.write("net/loads.csv", "name,bus,p_set\nl,b,5\n")
+        self.write("net/generators.csv", generators)
+        told = self.convert(f"{self.room}/net", f"{self.room}/case.json", status=status)
+        return told[status], json.loads(self.read(f"{self.room}/case.json")) if status == 0 else None
+
+    def test_flags_of_pypsa(self) -> None:
+        for key, text in (("committable", "yes"), ("committable", "T"), ("active", "on"), ("p_nom_extendable", "2")):
+            told, _ = self.small_network(f"name,bus,p_nom,{key}\ng,b,10,{text}\n", status=1)
+            due = f"convert.py: generator \"g\", {key}: True or False is due, and '{text}' is found\n"
+            self.assertEqual(told, due)
+        for text, kind in (("TRUE", "thermal"), ("1.0", "thermal"), ("False", "renewable"), ("", "renewable")):
+            _, case = self.small_network(f"name,bus,p_nom,committable\ng,b,10,{text}\n")
+            self.assertIn("g", case[f"{kind}_generators"])
+
+    def test_a_network_of_pypsa_without_loads_is_told(self) -> None:
+        self.small_network("name,bus,p_nom\ng,b,10\n")
+        os.remove(f"{self.room}/net/loads.csv")
+        told = self.convert(f"{self.room}/net", f"{self.room}/case.json")[0]
+        self.assertEqual(told, "assumed: no load in loads.csv: demand is 0 in all periods\n")
+
+    def test_a_quadratic_cost_alone_is_a_cost(self) -> None:
+        head = "name,bus,p_nom,committable,marginal_cost_quadratic,ramp_limit_up,p_init\n"
+        told, case = self.small_network(f"{head}g,b,10,False,0.5,0.3,4\nh,b,10,False,0,,\n")
+        unit = case["thermal_generators"]["g"]
+        self.assertEqual(list(case["renewable_generators"]), ["h"])
+        self.assertEqual(unit["piecewise_production"][-1], {"mw": 10, "cost": 50})
+        self.assertEqual((unit["must_run"], unit["ramp_up_limit"], unit["power_output_t0"]), (1, 3, 4))
+        self.assertIn("changed: quadratic costs are cut into 10 straight pieces (1: g)\n", told)
+
+    def test_what_a_renewable_unit_has_not_is_told(self) -> None:
+        self.small_network("name,bus,p_nom\ng,b,10\n")
+        self.write("net/generators-p_max_pu.csv", "snapshot,g\n0,0.5\n1,1\n")
+        told, case = self.small_network(
+            "name,bus,p_nom,marginal_cost_quadratic,ramp_limit_up,ramp_limit_down,p_init\ng,b,10,0.5,0.3,1,4\nh,b,9,0,inf,0.2,\n"
+        )
+        self.assertEqual(list(case["renewable_generators"]), ["g", "h"])
+        what = "of generators that become renewable units: such a unit has none"
+        for line in (
+            "costs of generators whose p_max_pu changes over time: a renewable unit has none (1: g)",
+            f"ramp_limit_up {what} (1: g)",
+            f"ramp_limit_down {what} (1: h)",
+            f"p_init {what} (1: g)",
+        ):
+            self.assertIn(f"left out: {line}\n", told)
+        self.assertEqual(told.count("\n"), 4)
+
+    def test_stand_by_costs_of_units_that_always_run(self) -> None:
+        head = "name,bus,p_nom,committable,marginal_cost,stand_by_cost,p_init\n"
+        told, case = self.small_network(f"{head}g,b,10,False,2,100,4\nh,b,10,True,2,100,4\n")
+        first = {name: it["piecewise_production"][0]["cost"] for name, it in case["thermal_generators"].items()}
+        self.assertEqual(first, {"g": 0, "h": 100})
+        what = "stand_by_cost of generators that aren't committable: PyPSA charges it to committable ones alone"
+        self.assertIn(f"left out: {what} (1: g)\n", told)
+
+    def test_defaults_of_pypsa_are_not_told(self) -> None:
+        head = "name,bus,p_nom,e_sum_min,e_sum_max\n"
+        self.assertEqual(self.small_network(f"{head}g,b,10,-inf,inf\n")[0], "")
+        told, _ = self.small_network(f"{head}g,b,10,0,0\n")
+        self.assertEqual(told.count("left out: generators.csv: the column e_sum_m"), 2)
+
+    def test_a_snapshot_without_a_weight(self) -> None:
+        for weight in ("0", "-1", "0.0"):
+            told, _ = self.small_network("name,bus,p_nom\ng,b,10\n", f"snapshot,objective\n0,1\n1,{weight}\n", status=1)
+            due = "convert.py: net/snapshots.csv, row 1: the weight of a snapshot in the costs is to be above 0\n"
+            self.assertEqual(told, due)
+
+    def test_a_network_without_snapshots(self) -> None:
+        told, _ = self.small_network("name,bus,p_nom\ng,b,10\n", "snapshot,objective\n", status=1)
+        self.assertEqual(told, "convert.py: net/snapshots.csv: it has no row of a snapshot\n")
+
+    def test_all_members_of_a_file_of_gzip_are_read(self) -> None:
+        for form in (other_forms.unit_commitment_jl, other_forms.egret):
+            data = json.dumps(form()).encode()
+            self.write("plain.json", data.decode())
+            with open(f"{self.room}/parts.json.gz", "wb") as file:
+                file.write(b"".join(gzip.compress(it) for it in (data[:1000], b"", data[1000:])) + bytes(5))
+            for name in ("plain.json", "parts.json.gz"):
+                self.convert(f"{self.room}/{name}", f"{self.room}/of_{name[:5]}.json")
+            self.assertEqual(self.read(f"{self.room}/of_plain.json"), self.read(f"{self.room}/of_parts.json"))
+        with open(f"{self.room}/parts.json.gz", "ab") as file:
+            file.write(b"more")
+        self.assertIn(
+            "no whole file of gzip", self.convert(f"{self.room}/parts.json.gz", f"{self.room}/none.json", status=1)[1]
+        )
+
+    def test_a_pipe_is_read_once(self) -> None:
+        for text in (market.text(market.case()), json.dumps(other_forms.egret())):
+            case = self.write("case.json", text)
+            self.convert(case, f"{self.room}/due.json")
+            for source in (f"cat {case} | %s -", f"%s <(cat {case})", f"%s /dev/stdin < {case}"):
+                tool = f"{sys.executable} -B {ROOT}/tools/convert.py"
+                line = f"set -o pipefail; {source % tool} {self.room}/made.json"
+                ran = subprocess.run(["bash", "-c", line], capture_output=True, text=True)
+                self.assertEqual((ran.returncode, ran.stderr), (0, ""), source)
+                self.assertEqual(self.read(f"{self.room}/made.json"), self.read(f"{self.room}/due.json"))
+                os.remove(f"{self.room}/made.json")
+
+    def test_standard_input_that_is_no_case_is_named(self) -> None:
+        tool = [sys.executable, "-B", f"{ROOT}/tools/convert.py", "-", f"{self.room}/made.json"]
+        for text, due in (
+            ("{", "no JSON text"),
+            ("{}", "it is no case of hull"),
+            ('{"time_periods": 1}', "hull would"),
+        ):
+            ran = subprocess.run(tool, input=text, capture_output=True, text=True)
+            self.assertEqual((ran.returncode, ran.stderr.count("\n")), (1, 1))
+            self.assertIn(f"convert.py: standard input: {due}", ran.stderr)
 
     def test_a_polynomial_from_no_power_on(self) -> None:
         model = changed_model()

@@ -17,9 +17,12 @@ from tool import PROGRAM, python_with, run
 
 from hulltools.deviations import Deviation, table_text
 from hulltools.errors import HullError
-from hulltools.external_schedules import followed_csv, numbers
+from hulltools.cases import case_of
+from hulltools.external_schedules import Followed, followed_csv, followed_schedule, most_of, numbers, with_flags
+from hulltools.impossible import why_flags
 from hulltools.json_texts import parse
 from hulltools.numbers import Kilowatts
+from hulltools.schedules import Plan, Schedule
 
 
 class Follow(unittest.TestCase):
@@ -79,10 +82,55 @@ class Follow(unittest.TestCase):
         self.assertIn("made.json: this is to be two of the files that are written\n", said)
         self.assertFalse(os.path.exists(f"{self.room}/made.json"))
 
+    def listed(self, *keys: str) -> List[float]:
+        """The places of the keys in the order of time."""
+        value = parse(json.dumps({key: place for place, key in enumerate(keys)}).encode())
+        return numbers(value, len(keys), "f", "x")
+
+    def test_times_as_keys_stand_in_the_order_of_time(self) -> None:
+        """Whatever their order in the file is: summer ends, a year ends, and offsets differ."""
+        for keys, order in (
+            (("2026-10-25T02:00+01:00", "2026-10-25T02:00+02:00", "2026-10-25T03:00+01:00"), [1, 0, 2]),
+            (("2026-10-25 02:00:00Z", "2026-10-25 02:30:00.000+0200"), [1, 0]),
+            (("2026-10-25T02:00+01:00[Europe/Paris]", "2026-10-25T02:00+02:00[Europe/Paris]"), [1, 0]),
+            (("2027-01-01T00:00-05", "2027-01-01T01:00+00"), [1, 0]),
+            (("2026-10-25 10:00", "2026-10-25 09:00"), [1, 0]),
+            (("20261025T1000", "20261025T0900"), [1, 0]),
+            (("t9", "t10"), [0, 1]),
+            (("t10", "t9"), None),
+            (("25.10.2026 23:00", "26.10.2026 00:00"), [0, 1]),
+            (("31.12. 22:00", "31.12. 23:00"), [0, 1]),
+            (("1:00:00", "10:00:00", "2:00:00"), None),
+            (("31-Dec-26 22:00", "31-Dec-26 23:00", "01-Jan-27 00:00", "01-Jan-27 01:00"), None),
+            (("22:00", "23:00", "00:00", "01:00"), None),
+            (("Mon 23:00", "Tue 00:00"), None),
+            (("31.12. 23:00", "01.01. 00:00"), None),
+            (("-3", "-2", "-1", "0"), None),
+            (("31/10/2026", "01/11/2026"), None),
+            (("31.10.26", "01.11.26"), None),
+            (("31 Oct 2026", "1 Nov 2026"), None),
+            (("10/25/2026 1:00", "10/25/2026 0:00"), None),
+            (("12:00 PM", "1:00 PM"), None),
+            (("11 a.m.", "12 p.m."), None),
+            (("11am", "12pm"), None),
+            (("2026-10-25T02:00+02:00", "2026-10-25T03:00"), None),
+            (("2026-10-25T02:00+02:00", "2026-10-25T01:00+01:00"), None),
+            (("2026-13-25T02:00+02:00", "2026-12-25T01:00+01:00"), None),
+            (("1", "01"), None),
+            (("one", "two"), None),
+        ):
+            with self.subTest(keys=keys):
+                if order is not None:
+                    self.assertEqual(self.listed(*keys), order)
+                else:
+                    with self.assertRaises(HullError) as found:
+                        self.listed(*keys)
+                    self.assertTrue(str(found.exception).startswith("f: x: "), found.exception)
+
     def test_periods_as_keys_count_by_their_numbers(self) -> None:
-        for keys in [str(period) for period in range(1, 13)], [f"{hour}:00" for hour in range(24)]:
-            value = parse(json.dumps({key: keys.index(key) for key in sorted(keys)}).encode())
-            self.assertEqual(numbers(value, len(keys), "f", "x"), [float(place) for place in range(len(keys))])
+        keys = [str(period) for period in range(1, 13)]
+        value = parse(json.dumps({key: keys.index(key) for key in sorted(keys)}).encode())
+        self.assertEqual(numbers(value, len(keys), "f", "x"), [float(place) for place in range(len(keys))])
         with self.assertRaises(HullError):
             numbers(parse(b'{"a": 1}'), 1, "f", "x")
 
@@ -98,11 +146,93 @@ class Follow(unittest.TestCase):
             ("unit,period,on,power\nG1,1,1,60,5\n", "line 2: it has more cells than the first line names columns."),
             ("unit,period,power,power\nG1,1,1,2\n", "the column 'power' stands twice"),
             ("unit,period,power\nG1,1,1\nG1,1,2\n", "line 3: a second row of this unit and period"),
+            ("unit,period,power\nG1,1,1\nG1,01,2\n", "line 3: a second row of this unit and period"),
+            (
+                "unit,period,power\nG1,1,1\nG1,2,1\nG1,4,1\n",
+                'plan.csv: unit "G1" has no power in period 3, and it has one',
+            ),
+            ("unit,period,on,power\nG1,1,,1\nG1,2,1,1\n", 'plan.csv: unit "G1" has no on in period 1, and it has one'),
         ):
             with open(f"{self.room}/plan.csv", "w", encoding="utf-8") as file:
                 file.write(text)
             status, said = self.follow("plan.csv")
             self.assertEqual((status, due in said), (1, True), said)
+
+    def test_flags_are_taken_as_pandas_writes_them(self) -> None:
+        found = followed_csv(b"unit,period,on,power\nG1,1,True,5\nG1,2,False,\n", "rows", 2)
+        self.assertEqual((found.on, found.power), ({"G1": [1.0, 0.0]}, {"G1": [5.0, 0.0]}))
+
+    def test_a_bad_cell_is_told_with_its_column(self) -> None:
+        for row, due in (
+            ("G1,one,1,5", "`period` is one"),
+            ("G1,1,yes,5", "`on` is yes"),
+            ("G1,1,1,True", "`power` is True"),
+        ):
+            with self.assertRaisesRegex(HullError, f"^rows, line 2: no row of .*, and numbers: {due}$"):
+                followed_csv(f"unit,period,on,power\n{row}\n".encode(), "rows", 2)
+
+    def test_powers_in_kilowatts_are_refused(self) -> None:
+        """Of each kind; a power of ten times the most isn't."""
+        case = case_of("case", parse(market.text(market.case()).encode()))
+        for kind, verb in (("thermal", "gives"), ("renewable", "gives"), ("bid", "buys")):
+            unit = next(unit for known, unit in case.units if known == kind)
+            on = {unit.name: [1.0] * case.periods for unit in case.thermal}
+            most = most_of(unit) / 1e3
+            with_flags(Followed(on, {unit.name: [10 * most] * case.periods}), case, "rows")
+            with self.assertRaises(HullError) as caught:
+                with_flags(Followed(on, {unit.name: [most, 1000 * most]}), case, "rows")
+            power = f"power {1000 * most:.10g} MW of {unit.name} in period 2"
+            due = f"rows: {power}, and it {verb} at most {most:g} MW: is it in kilowatts?"
+            self.assertEqual(caught.exception.sentence, due)
+            self.assertEqual((caught.exception.unit, caught.exception.period), (unit.name, 2))
+
+    def test_a_schedule_of_two_kinds_or_of_other_periods_is_refused(self) -> None:
+        both = Schedule({(kind, "G"): Plan([1], [Kilowatts(1)], [Kilowatts(0)]) for kind in ("thermal", "bid")})
+        with self.assertRaisesRegex(HullError, '^rows: "G" is both a thermal and a bid, '):
+            followed_schedule(both, "rows", 1)
+        with self.assertRaisesRegex(HullError, "^rows: G: lists of 2 numbers are due$"):
+            followed_schedule(both, "rows", 2)
+
+    def test_the_unit_that_breaks_a_rule_is_named(self) -> None:
+        case = case_of("case", parse(market.text(market.case()).encode()))
+        flags = [[int(hour in (7, 8)) for hour in range(24)] for _ in case.thermal]
+        why = why_flags(case, flags)
+        self.assertIn(f'"{why.unit}"', why.sentence)
+        self.assertIn(f"period {why.period}", why.sentence)
+
+    def test_an_empty_cell_is_0_where_the_unit_is_off(self) -> None:
+        found = followed_csv(b"unit,period,on,power,reserve\nG1,1,0,,\nG1,2,1,5,\n", "rows", 2)
+        self.assertEqual((found.on, found.power, found.reserve), ({"G1": [0.0, 1.0]}, {"G1": [0.0, 5.0]}, {}))
+
+    def test_units_without_powers_are_told(self) -> None:
+        other_forms.write_json(f"{self.room}/plan.json", self.megawatts(lambda plan: plan["renewable"].clear()))
+        status, said = self.follow("plan.json")
+        self.assertEqual(status, 0, said)
+        due = "make_schedule.py: plan.json has no powers of WIND1, WIND2, which are free"
+        self.assertEqual(said.splitlines()[0], due)
+
+    def test_a_name_of_two_kinds_is_refused(self) -> None:
+        def both(plan: Dict[str, Any]) -> None:
+            plan["renewable"]["COAL1"] = plan["renewable"].pop("WIND1")
+
+        def other(plan: Dict[str, Any]) -> None:
+            plan["renewable"]["STEEL"] = plan["bids"].pop("STEEL")
+
+        due = "and units of a schedule to follow are told by their names alone\n"
+        for change, told in (
+            (both, '"COAL1" is both a thermal and a renewable'),
+            (other, '"STEEL" is both a renewable and a bid'),
+        ):
+            other_forms.write_json(f"{self.room}/plan.json", self.megawatts(change))
+            self.assertEqual(self.follow("plan.json"), (1, f"make_schedule.py: plan.json: {told}, {due}"))
+        case = market.case()
+        case["renewable_generators"]["COAL1"] = case["renewable_generators"].pop("WIND1")
+        with open(f"{self.room}/case.json", "w", encoding="utf-8") as file:
+            file.write(market.text(case))
+        with open(f"{self.room}/plan.csv", "w", encoding="utf-8") as file:
+            file.write("unit,period,power\n" + "".join(f"COAL1,{t},300\n" for t in range(1, 25)))
+        told = f'plan.csv: "COAL1" is both a thermal and a renewable, {due}'
+        self.assertEqual(self.follow("plan.csv"), (1, f"make_schedule.py: {told}"))
 
     def test_names_of_tables_are_marked_for_spreadsheets(self) -> None:
         text = table_text([Deviation("thermal", "=1+1", 1, "power", 2.0, Kilowatts(1))])
@@ -125,7 +255,7 @@ class Follow(unittest.TestCase):
         other_forms.write_json(f"{self.room}/plan.json", self.megawatts(self.thirty_off))
         status, said = self.follow("plan.json", "--tolerance", "1", "--deviations", f"{self.room}/table.csv")
         self.assertEqual((status, said.count("\n")), (1, 1), said)
-        self.assertTrue(said.startswith("make_schedule.py: nothing is written, since "), said)
+        self.assertTrue(said.startswith("make_schedule.py: no schedule is written, since "), said)
         self.assertTrue(said.endswith("--tolerance 1 MW was asked for\n"), said)
         self.assertFalse(os.path.exists(f"{self.room}/made.json"))
         self.assertTrue(self.table())

@@ -3,7 +3,7 @@
 usage: convert.py FROM TO [--from FORM] [--left-out FILE]
 
   FROM             a case of hull; a folder of CSV files (docs/CSV.md); an instance of UnitCommitment.jl, plain or .json.gz; ModelData of
-                   EGRET as JSON; or a folder that PyPSA's export_to_csv_folder wrote
+                   EGRET as JSON; or a folder that PyPSA's export_to_csv_folder wrote; standard input where it is -
   TO               a file that ends in .json gets a case of hull; any other name is a folder that gets CSV files, together, with
                    files.sha256, which has their sums; what this tool wrote there before is replaced
   --from FORM      hull, csv, unit-commitment-jl, egret or pypsa; told by what FROM holds if left out
@@ -17,13 +17,24 @@ docs/CSV.md says what is read of each form. It needs neither the program nor Sci
 import json
 import os
 import tempfile
-from typing import Callable, List, Optional, Sequence
+from typing import Callable, Dict, List, Optional, Sequence
 
-from ..converters import FORMS, Notes, form_of, read_form
+from ..converters import FORMS, Notes, read_form
 from ..converters.case_texts import case_text
 from ..converters.csv_folder import TOOL, marked_count, names_of_files, refuse_files, write_csv
 from ..converters.notes import Object
-from ..errors import HullError, need_output, refuse_inputs, refuse_twice, run_tool, write_whole
+from ..errors import (
+    HullError,
+    need_output,
+    refuse_inputs,
+    refuse_twice,
+    run_tool,
+    shown_name,
+    told_with,
+    try_output,
+    write_together,
+    write_whole,
+)
 from ..lint import Review, look
 from ..lint_findings import Level
 from ..telling import write_lines
@@ -36,7 +47,7 @@ def review_of(text: str) -> Review:
     """What lint.py finds in the case."""
     with tempfile.TemporaryDirectory(prefix="hull-convert-") as folder:
         name = os.path.join(folder, "case.json")
-        with open(name, "w", encoding="utf-8") as file:
+        with told_with(name), open(name, "w", encoding="utf-8") as file:
             file.write(text)
         return look({"case": name})
 
@@ -67,23 +78,29 @@ def body(words: Sequence[str], tell: Callable[[str], None]) -> int:
     for name in [given.to] if is_file else names_of_files(given.to):
         refuse_twice([name, given.left_out])  # (each alone, since links in a folder are refused)
     notes = Notes()
-    case = read_form(given.from_name, notes, given.form or form_of(given.from_name))
+    case = read_form(given.from_name, notes, given.form)
     text, inputs = case_text(case), inputs_of(given.from_name)
     review = review_of(text)
-    refuse_faults(review, given.from_name)
-    for name in (given.to, given.left_out):
-        refuse_inputs(name, inputs) if name else None
-    if not is_file:
-        refuse_files(given.to, inputs)
-    if given.left_out:
-        write_whole(given.left_out, json.dumps(notes.as_json(), ensure_ascii=False, indent=1) + "\n", inputs)
+    refuse_faults(review, shown_name(given.from_name))
+    left = {given.left_out: json.dumps(notes.as_json(), ensure_ascii=False, indent=1) + "\n"} if given.left_out else {}
     if is_file:
-        write_whole(given.to, text, inputs)
+        write_together({given.to: text, **left}, inputs, follow_links=True)
     else:
-        write_csv(given.to, case, inputs)
+        write_folder(given.to, case, inputs, left)
     write_lines(notes.lines())
     tell_oddities(given.to, case, review, tell)
     return 0
+
+
+def write_folder(to: str, case: Object, inputs: List[str], left: Dict[str, str]) -> None:
+    """Writes the CSV files, and what was left out behind them, whose file is tried before."""
+    refuse_inputs(to, inputs)
+    refuse_files(to, inputs)
+    for name in left:
+        try_output(name, inputs)
+    write_csv(to, case, inputs)
+    for name, content in left.items():
+        write_whole(name, content, inputs)
 
 
 def tell_oddities(to: str, case: Object, review: Review, tell: Callable[[str], None]) -> None:

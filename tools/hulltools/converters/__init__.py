@@ -5,7 +5,7 @@ import os
 import zlib
 from typing import Callable, Dict, Optional
 
-from ..errors import HullError, read_bytes
+from ..errors import HullError, read_bytes, shown_name
 from ..json_texts import Refused, parse
 from . import csv_folder, egret, pypsa, unit_commitment_jl
 from .case_texts import read_hull
@@ -24,18 +24,20 @@ def unpacked(name: str) -> bytes:
     data: bytes = read_bytes(name, "an instance")
     if not data.startswith(b"\x1f\x8b"):
         return data
-    unpack = zlib.decompressobj(16 + zlib.MAX_WBITS)
-    try:
-        found = unpack.decompress(data, MOST_BYTES)
-    except zlib.error as why:
-        raise HullError(f"{name}: no whole file of gzip: {why}") from None
-    if not unpack.eof:
-        raise HullError(f"{name}: no whole file of gzip, or more than {MOST_BYTES:,} bytes")
-    return found
+    found = bytearray()
+    while data:  # (a file of gzip may have several members, and zeros behind them)
+        unpack = zlib.decompressobj(16 + zlib.MAX_WBITS)
+        try:
+            found += unpack.decompress(data, MOST_BYTES - len(found) + 1)
+        except zlib.error as why:
+            raise HullError(f"{name}: no whole file of gzip: {why}") from None
+        if not unpack.eof or len(found) > MOST_BYTES:
+            raise HullError(f"{name}: no whole file of gzip, or more than {MOST_BYTES:,} bytes")
+        data = unpack.unused_data.lstrip(b"\0")
+    return bytes(found)
 
 
-def json_of(name: str) -> Object:
-    data = unpacked(name)
+def json_of(data: bytes, name: str) -> Object:
     if data.startswith(b"PK"):
         raise HullError(
             f"{name}: this is a spreadsheet or an archive: save each of its sheets as CSV, as docs/CSV.md has them"
@@ -55,15 +57,17 @@ def json_of(name: str) -> Object:
     return value
 
 
-def form_of(name: str) -> str:
-    """Which form a file or folder has, by what it holds."""
-    if os.path.isdir(name):
-        if pypsa.is_mine(name):
-            return "pypsa"
-        if os.path.exists(os.path.join(name, "units.csv")):
-            return "csv"
-        raise HullError(f"{name}: this folder has neither units.csv nor PyPSA's generators.csv and snapshots.csv")
-    value = json_of(name)
+def form_of_folder(name: str) -> str:
+    """Which form a folder has, by what it holds."""
+    if pypsa.is_mine(name):
+        return "pypsa"
+    if os.path.exists(os.path.join(name, "units.csv")):
+        return "csv"
+    raise HullError(f"{name}: this folder has neither units.csv nor PyPSA's generators.csv and snapshots.csv")
+
+
+def form_of(value: Object, name: str) -> str:
+    """Which form a JSON value has, by what it holds."""
     if unit_commitment_jl.is_mine(value):
         return "unit-commitment-jl"
     if egret.is_mine(value):
@@ -74,15 +78,19 @@ def form_of(name: str) -> str:
 
 
 def read_form(name: str, notes: Notes, form: Optional[str] = None) -> Object:
-    """The case of a file or folder, with notes of what isn't in it."""
-    form = form or form_of(name)
+    """The case of a file or folder, with notes of what isn't in it. A file is read once, since it may be a pipe."""
+    if form is None and os.path.isdir(name):
+        form = form_of_folder(name)
     if form == "csv":
         return csv_folder.read_csv(name, notes)
     if form == "pypsa":
         return pypsa.read_pypsa(name, notes)
+    data = unpacked(name)
     if form == "hull":
-        return read_hull(name, notes)
-    return JSON_FORMS[form](json_of(name), notes)
+        return read_hull(data, name, notes)
+    value = json_of(data, shown_name(name))
+    form = form or form_of(value, shown_name(name))
+    return read_hull(data, name, notes) if form == "hull" else JSON_FORMS[form](value, notes)
 
 
-__all__ = ["FORMS", "Notes", "form_of", "read_form"]
+__all__ = ["FORMS", "Notes", "read_form"]

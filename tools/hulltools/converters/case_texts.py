@@ -5,7 +5,7 @@ import json
 from decimal import Decimal
 from typing import Any, List
 
-from ..errors import HullError, read_bytes
+from ..errors import HullError, shown_name
 from ..json_texts import Refused, parse
 from ..lint_keys import THERMAL
 from ..named_files import Written
@@ -61,11 +61,11 @@ def written_json(data: bytes, name: str) -> Any:
     return json.loads(data, parse_float=Written, parse_int=Written)
 
 
-def read_hull(name: str, notes: Notes) -> Object:
+def read_hull(data: bytes, name: str, notes: Notes) -> Object:
     """A case of `hull`, with its fields in order; keys that `hull` skips are noted."""
-    value = written_json(read_bytes(name, "a case"), name)
+    value = written_json(data, shown_name(name))
     if not isinstance(value, dict):
-        raise HullError(f"{name}: no case: it isn't an object")
+        raise HullError(f"{shown_name(name)}: no case: it isn't an object")
     top = Taken(value, "the case", None, notes)
     case: Object = {key: top.take(key, {} if key.endswith("generators") else None) for key in CASE_KEYS}
     case = {key: it for key, it in case.items() if it is not None}

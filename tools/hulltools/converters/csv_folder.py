@@ -1,13 +1,12 @@
 """A case as a folder of CSV files, which people fill in a spreadsheet: docs/CSV.md has the form."""
 from __future__ import annotations
 
-import csv
-import io
 import os
 import re
-from typing import Dict, Iterable, Iterator, List, Optional, Tuple
+from difflib import get_close_matches
+from typing import Dict, Iterable, Iterator, List, Optional, Set, Tuple
 
-from ..errors import HullError, one_line, read_bytes, rows_told_with
+from ..errors import HullError, one_line, read_bytes, refuse_line_end, rows_in
 from ..named_files import Written
 from ..study_folder import MARK, SUMS, StudyFolder, write_in_folder
 from ..tables import FORMULA, as_it_was, told_apart
@@ -25,7 +24,12 @@ COLUMNS: Dict[str, List[str]] = {
 }
 TOOL = "convert.py"
 NEEDED = ("units.csv", "offers.csv", "hours.csv")
+NAMES = ("unit", "bid")  # columns of names, which may have several lines
 NUMBER = re.compile(r"-?(0|[1-9][0-9]*)(\.[0-9]+)?([eE][-+]?[0-9]+)?")
+THOUSANDS = re.compile(r"[-+]?[1-9][0-9]{0,2}(,[0-9]{3})+")  # what may have commas between thousands
+SURE = "sure"
+# A decimal sign of files with semicolons, with the first place that has it; and the first of a comma that parts no thousands.
+Signs = Dict[str, str]
 
 
 class Row(Dict[str, str]):
@@ -50,12 +54,12 @@ class Row(Dict[str, str]):
     def period(self, periods: int) -> int:
         """The period, from 1; a whole number that a spreadsheet has as 3.0 is taken too."""
         text = re.sub(r"\.0*$", "", self["period"])
-        if not text.isdecimal() or len(text) > 9 or not 1 <= int(text) <= periods:
+        if not re.fullmatch("[0-9]{1,9}", text) or not 1 <= int(text) <= periods:
             raise self.wrong(f"period is {self['period']!r}, and 1 to {periods} is due: hours.csv has {periods} rows")
         return int(text)
 
 
-def rows_of(folder: str, file: str, notes: Notes) -> List[Row]:
+def rows_of(folder: str, file: str, notes: Notes, signs: Signs) -> List[Row]:
     """The rows of a file, or none where it isn't there; columns that aren't read are noted."""
     name = os.path.join(folder, file)
     if not os.path.exists(name) and file not in NEEDED:
@@ -66,18 +70,42 @@ def rows_of(folder: str, file: str, notes: Notes) -> List[Row]:
         raise HullError(f"{name}: it isn't UTF-8: save it as CSV UTF-8") from None
     head = text.split("\n", 1)[0]
     semicolons = ";" in head and "," not in head
-    reader = csv.reader(io.StringIO(text, newline=""), delimiter=";" if semicolons else ",")
-    with rows_told_with(name):
-        found, columns = [], [it.strip() for it in next(reader, [])]
-        check_columns(name, columns, COLUMNS[file], notes)
-        for cells in reader:
-            if any(it.strip() for it in cells):
-                found.append(row_of(name, reader.line_num, columns, cells, semicolons))
+    rows = rows_in(text, name, ";" if semicolons else ",")
+    columns = [it.strip() for it in next((cells for _, cells in rows), [])]
+    check_columns(name, columns, COLUMNS[file], notes)
+    found = []
+    for line, cells in rows:
+        if any(it.strip() for it in cells):
+            found.append(row_of(name, line, columns, cells))
+            if semicolons:
+                take_signs(found[-1], COLUMNS[file], signs)
     return found
 
 
-def row_of(name: str, line: int, columns: List[str], cells: List[str], semicolons: bool) -> Row:
-    """A row; where semicolons part its cells, numbers may have a decimal comma."""
+def take_signs(row: Row, columns: List[str], signs: Signs) -> None:
+    """Has a point in place of each decimal comma of a row. Where a folder has both, one of them may part thousands, so that is refused."""
+    for column in (it for it in columns if it not in NAMES):
+        for sign in (it for it in ",." if it in row[column]):
+            other = signs.get("," if sign == "." else ".")
+            signs.setdefault(sign, row.place)
+            if other:
+                place = "another number" if other == row.place else os.path.basename(other)
+                one, two = ("point", "comma") if sign == "." else ("comma", "point")
+                why = f"{row[column]!r} with a {one}, and there is a {two} in {place}: where semicolons part cells, not both are taken"
+                raise row.wrong(f"{column} is {why}")
+        if "," in row[column] and not THOUSANDS.fullmatch(row[column]):
+            signs.setdefault(SURE, row.place)
+        row[column] = row[column].replace(",", ".")
+
+
+def refuse_unsure(signs: Signs) -> None:
+    """Refuses a folder whose commas may all stand between thousands."""
+    if "," in signs and SURE not in signs:
+        what = "each comma of this folder may be one of decimals or of thousands: write numbers with points"
+        raise HullError(f"{signs[',']}: {what}")
+
+
+def row_of(name: str, line: int, columns: List[str], cells: List[str]) -> Row:
     row = Row()
     row.place = f"{name}, line {line}"
     if len(cells) > len(columns):
@@ -85,8 +113,9 @@ def row_of(name: str, line: int, columns: List[str], cells: List[str], semicolon
             f"it has {len(cells)} cells, and the first line names {len(columns)} columns. Is a decimal comma in it?"
         )
     for column, cell in zip(columns, [*cells, *[""] * (len(columns) - len(cells))]):
-        is_name = column in ("unit", "bid")
-        row[column] = as_it_was(cell) if is_name else cell.strip().replace(",", ".") if semicolons else cell.strip()
+        if column not in NAMES:
+            refuse_line_end(cell, row.place)
+        row[column] = as_it_was(cell) if column in NAMES else cell.strip()
     return row
 
 
@@ -112,9 +141,26 @@ def by_name(rows: Iterable[Row], column: str, known: Optional[Iterable[str]] = N
         yield row[column], row
 
 
+def look_at_names(folder: str, notes: Notes) -> None:
+    """Refuses a file whose name is nearly one that is read, and notes other CSV files."""
+    stems = {os.path.splitext(it)[0]: it for it in COLUMNS}
+    for file in sorted(os.listdir(folder) if os.path.isdir(folder) else []):
+        stem, end = os.path.splitext(file.lower())
+        if end != ".csv" or file in COLUMNS:
+            continue
+        near = get_close_matches(stem, stems, 1, 0.8)
+        if near and not file.startswith("."):
+            place = one_line(os.path.join(folder, file))
+            raise HullError(f"{place}: is it {stems[near[0]]}? Name it so, or move it away")
+        notes.left_out(f"the file {file}")
+
+
 def read_csv(folder: str, notes: Notes) -> Object:
     """The case of a folder."""
-    tables = {file: rows_of(folder, file, notes) for file in COLUMNS}
+    look_at_names(folder, notes)
+    signs: Signs = {}
+    tables = {file: rows_of(folder, file, notes, signs) for file in COLUMNS}
+    refuse_unsure(signs)
     hours = tables["hours.csv"]
     periods = len(hours)
     for t, row in enumerate(hours, 1):
@@ -141,9 +187,13 @@ def thermal_units(tables: Dict[str, List[Row]], periods: int) -> Object:
         units[name]["startup"].append({key: row.number(key) for key in ("lag", "cost")})
     for name, row in by_name(tables["offers.csv"], "unit", units):
         units[name]["piecewise_production"].append({key: row.number(key) for key in ("mw", "cost")})
+    seen: Set[Tuple[str, int]] = set()
     for name, row in by_name(tables["windows.csv"], "unit", units):
-        window = units[name].setdefault("commitment", [None] * periods)
-        window[row.period(periods) - 1] = row.number("commitment") if row["commitment"] else None
+        window, t = units[name].setdefault("commitment", [None] * periods), row.period(periods)
+        if (name, t) in seen:
+            raise row.wrong(f'the unit "{name}" has period {t} twice')
+        seen.add((name, t))
+        window[t - 1] = row.number("commitment") if row["commitment"] else None
     return units
 
 
@@ -168,7 +218,7 @@ def bids_of(rows: List[Row], periods: int) -> Object:
     bids: Object = {}
     for name, row in by_name(rows, "bid"):
         blocks = bids.setdefault(name, {"blocks": [[] for _ in range(periods)]})["blocks"]
-        period = blocks[row.period(periods) - 1]
+        period = blocks[row.period(periods) - 1]  # (a period may have several rows: each is a block)
         if row["mw"] or row["price"]:
             period.append({key: row.number(key) for key in ("mw", "price")})
     return bids
@@ -230,5 +280,4 @@ def refuse_files(folder: str, inputs: List[str]) -> None:
 
 def write_csv(folder: str, case: Object, inputs: List[str]) -> None:
     """Writes the files in place of those that this tool wrote there before."""
-    os.makedirs(folder, exist_ok=True)
     write_in_folder(folder, csv_texts(case), inputs, TOOL, StudyFolder)

@@ -5,13 +5,14 @@ from decimal import Decimal
 from fractions import Fraction
 from typing import Any, Callable, List, Optional, Tuple
 
-from ..errors import HullError
+from ..errors import HullError, one_line
 from ..json_texts import is_number
 from .notes import Notes, Object, Taken
 from .series import (
     constant,
     decimal,
     first,
+    flag,
     in_periods,
     length_in_words,
     limit,
@@ -21,6 +22,7 @@ from .series import (
     scaled,
     series,
     state_before,
+    status_of,
     sum_of,
 )
 
@@ -83,7 +85,7 @@ class Model:
             load = Taken(value, "load", name, self.notes)
             for key in ("bus", "area", "zone", "name"):
                 load.take(key)
-            if load.take("in_service", True):
+            if flag(load.take("in_service", True), f'load "{name}", in_service'):
                 rows.append(series(values(load.take("p_load", 0)), self.periods, f'load "{name}", p_load'))
             else:
                 self.notes.left_out("loads that aren't in service", name)
@@ -106,7 +108,7 @@ class Model:
             unit = Taken(value, "generator", name, self.notes)
             for key in OF_GENERATORS:
                 unit.take(key)
-            if unit.take("in_service", True) is False:
+            if not flag(unit.take("in_service", True), f'generator "{name}", in_service'):
                 self.notes.left_out("generators that aren't in service", name)
                 continue
             kind = unit.value.get("generator_type")
@@ -148,11 +150,15 @@ class Model:
             return in_periods(unit.take(key, 0), self.per_hour, key, self.notes, name)
 
         down, lags, status = time("min_down_time"), self.starts(unit, name), unit.take("initial_status")
-        periods_before = None if status is None else self.status(status, name)
+        periods_before = (
+            None if status is None else status_of(status, self.per_hour, "initial_status", self.notes, name)
+        )
         before = state_before(periods_before, max([down, *(lag["lag"] for lag in lags)]), self.notes, name)
         power = self.number(unit, name, "initial_p_output")
         if power is None and before["unit_on_t0"]:
             self.notes.assumed("no initial output of a unit that is on: its least power", name)
+        if power and not before["unit_on_t0"]:
+            self.notes.changed("initial_p_output of a unit that is off before period 1 is taken as 0", name)
         found: Object = {
             "must_run": 0,
             "power_output_minimum": least,
@@ -172,16 +178,11 @@ class Model:
         unit.drop("shutdown costs", "shutdown_cost")
         return found
 
-    def status(self, hours: Any, name: str) -> int:
-        number = decimal(hours, f"{name}, initial_status")
-        periods = in_periods(abs(number), self.per_hour, "initial_status", self.notes, name)
-        return periods if number > 0 else -periods
-
     def starts(self, unit: Taken, name: str) -> List[Object]:
         """Lags with costs, one cost for all, or lags with fuel."""
         what, rows = f"{name}, startup_cost", unit.take("startup_cost")
         if rows is None and unit.value.get("startup_fuel") is not None:
-            price = decimal(unit.value.get("fuel_cost"), f"{name}, fuel_cost")
+            price = decimal(unit.take("fuel_cost"), f"{name}, fuel_cost")
             other = decimal(unit.take("non_fuel_startup_cost", 0), f"{name}, non_fuel_startup_cost")
             fuel = pairs(unit.take("startup_fuel"), f"{name}, startup_fuel")
             rows = [[lag, decimal(burnt, f"{name}, startup_fuel") * price + other] for lag, burnt in fuel]
@@ -195,10 +196,14 @@ class Model:
 
     def curve(self, unit: Taken, name: str, least: Decimal, most: Decimal) -> List[Object]:
         """Points of the cost of a period."""
-        cost, price, factor = unit.take("p_cost"), unit.take("fuel_cost"), Decimal(1)
+        cost, factor = unit.take("p_cost"), Decimal(1)
         if cost is None and unit.value.get("p_fuel") is not None:
-            cost, factor = unit.take("p_fuel"), decimal(price, f"{name}, fuel_cost")
-        powers, costs = self.points(cost or 0, name, least, most)
+            cost, factor = unit.take("p_fuel"), decimal(unit.take("fuel_cost"), f"{name}, fuel_cost")
+        if cost is None:
+            raise HullError(f'generator "{one_line(name)}": it has neither p_cost nor p_fuel; a p_cost of 0 is taken')
+        if "fuel_cost" not in unit.seen:
+            unit.drop("fuel_cost of generators whose costs are in money", "fuel_cost")
+        powers, costs = self.points(cost, name, least, most)
         fixed = decimal(unit.take("no_load_cost", 0), f"{name}, no_load_cost")
         return points_of(
             powers, [scaled(factor * it + fixed, 1 / self.per_hour) for it in costs], f'generator "{name}", p_cost'
@@ -231,16 +236,13 @@ class Model:
         return powers, [sum(row, Decimal(0)) for row in rows]
 
     def commitment(self, unit: Taken, found: Object, name: str) -> None:
-        fixed = values(unit.take("fixed_commitment"))
+        fixed, what = values(unit.take("fixed_commitment")), f'generator "{name}", fixed_commitment'
         if isinstance(fixed, list):
-            what = f"{name}, fixed_commitment"
-            found["commitment"] = [None if it is None else int(decimal(it, what)) for it in fixed]
+            found["commitment"] = [None if it is None else int(flag(it, what)) for it in fixed]
+        elif fixed is not None and flag(fixed, what):
+            found["must_run"] = 1
         elif fixed is not None:
-            mark = int(decimal(fixed, f"{name}, fixed_commitment"))
-            if mark:
-                found["must_run"] = 1
-            else:
-                found["commitment"] = [0] * self.periods
+            found["commitment"] = [0] * self.periods
 
 
 def case_of(value: Object, notes: Notes) -> Object:

@@ -1,14 +1,12 @@
 """A network of PyPSA as `export_to_csv_folder` writes it: a table for each component, and one for each attribute that varies."""
 from __future__ import annotations
 
-import csv
-import io
 import os
 from decimal import Decimal
 from fractions import Fraction
 from typing import Dict, List, Optional, Tuple
 
-from ..errors import HullError, one_line, read_bytes, rows_told_with
+from ..errors import HullError, one_line, read_bytes, refuse_line_end, refuse_twice_named, rows_in
 from .notes import Notes, Object
 from .series import cell_number, lists_out_negative, points_of, scaled
 
@@ -22,6 +20,13 @@ READ = (
     "up_time_before down_time_before ramp_limit_up ramp_limit_down ramp_limit_start_up ramp_limit_shut_down active p_init"
 ).split()
 SAID = "name bus carrier control type build_year lifetime capital_cost p_nom_min p_nom_max p_nom_mod p_nom_set efficiency weight".split()
+# What a column that isn't read says where it says nothing: the default of PyPSA.
+NOTHING = ("", "nan", "0", "0.0", "false", "inf")
+DEFAULTS = {
+    "sign": ("", "nan", "1", "1.0"),
+    "e_sum_min": ("", "nan", "-inf", "-infinity"),
+    "e_sum_max": ("", "nan", *INFINITE),
+}
 VARYING = ("p_max_pu", "p_min_pu", "marginal_cost")
 KNOWN_FILES = (
     "generators.csv",
@@ -58,15 +63,20 @@ def table(folder: str, file: str) -> Table:
     if not os.path.exists(name):
         return {}
     try:
-        with rows_told_with(name):
-            rows = list(csv.reader(io.StringIO(read_bytes(name, "a table").decode("utf-8-sig"), newline="")))
+        text = read_bytes(name, "a table").decode("utf-8-sig")
     except UnicodeDecodeError:
         raise HullError(f"{name}: it isn't UTF-8") from None
+    rows = []
+    for line, cells in rows_in(text, name):
+        for cell in cells:
+            refuse_line_end(cell, f"{name}, line {line}")
+        rows.append(cells)
     if not rows or not rows[0]:
         raise HullError(f"{name}: it has no first line with columns")
     if rows[0][0] == "period":
         raise HullError(f"{name}: a network of several investment periods isn't read: write one of them")
     columns = rows[0][1:]
+    refuse_twice_named(columns, name)
     if any(len(row) > len(rows[0]) for row in rows):
         raise HullError(f"{name}: a row has more cells than the first line has columns")
     found = {row[0]: {**dict.fromkeys(columns, ""), **dict(zip(columns, row[1:]))} for row in rows[1:] if row}
@@ -81,8 +91,12 @@ def number(text: str, what: str) -> Optional[Decimal]:
     return None if shown.lower() in ("", "nan", "none") else cell_number(shown, what)
 
 
-def is_true(text: str) -> bool:
-    return text.strip().lower() in ("true", "1", "1.0")
+def is_true(text: str, what: str) -> bool:
+    """A cell's flag; one that is empty or nan is false."""
+    shown = text.strip().lower()
+    if shown not in ("true", "1", "1.0", "false", "0", "0.0", "", "nan", "none"):
+        raise HullError(one_line(f"{what}: True or False is due, and {text[:60]!r} is found"))
+    return shown in ("true", "1", "1.0")
 
 
 class Network:
@@ -92,8 +106,10 @@ class Network:
         self.folder, self.notes = folder, notes
         self.snapshots = table(folder, "snapshots.csv")
         self.periods = len(self.snapshots)
+        if not self.periods:
+            raise HullError(f"{os.path.join(folder, 'snapshots.csv')}: it has no row of a snapshot")
         self.generators = table(folder, "generators.csv")
-        self.varying = {it: self.columns(f"generators-{it}.csv") for it in VARYING}
+        self.varying = {it: self.columns_of("generators", it, self.generators) for it in VARYING}
         self.hours = self.weight()
 
     def columns(self, file: str) -> Dict[str, List[str]]:
@@ -106,6 +122,14 @@ class Network:
         names: Dict[str, str] = next(iter(found.values()), {})
         return {name: [found[it][name] for it in self.snapshots] for name in names}
 
+    def columns_of(self, component: str, attribute: str, known: Table) -> Dict[str, List[str]]:
+        """The columns of the table of an attribute, by name; those of no row of the component's table are noted."""
+        found = self.columns(f"{component}-{attribute}.csv")
+        for name in found:
+            if name not in known:
+                self.notes.left_out(f"columns of {component}-{attribute}.csv that have no row in {component}.csv", name)
+        return found
+
     def numbers(self, file: str, name: str, texts: List[str], what: str) -> List[Decimal]:
         """The numbers of a column over the snapshots; a cell without one is refused."""
         found = []
@@ -117,12 +141,17 @@ class Network:
             found.append(value)
         return found
 
+    def weight_of(self, snapshot: str, row: Dict[str, str]) -> Decimal:
+        """A snapshot's weight in the costs; 1 where it has none."""
+        found = number(row.get("objective") or row.get("weightings") or "1", "snapshots.csv")
+        if found is not None and found <= 0:
+            place = f"{os.path.join(self.folder, 'snapshots.csv')}, row {one_line(snapshot)}"
+            raise HullError(f"{place}: the weight of a snapshot in the costs is to be above 0")
+        return Decimal(1) if found is None else found
+
     def weight(self) -> Fraction:
         """How many hours a snapshot counts for in the costs."""
-        found = [
-            number(row.get("objective") or row.get("weightings") or "1", "snapshots.csv") or Decimal(1)
-            for row in self.snapshots.values()
-        ]
+        found = [self.weight_of(name, row) for name, row in self.snapshots.items()]
         if len(set(found)) > 1:
             self.notes.left_out("snapshot weightings that differ: the first is taken for all")
         if found and found[0] != 1:
@@ -138,25 +167,30 @@ class Network:
         return case
 
     def demand(self) -> List[Decimal]:
-        loads, varying, total = (
-            table(self.folder, "loads.csv"),
-            self.columns("loads-p_set.csv"),
-            [Decimal(0)] * self.periods,
-        )
+        loads, total = table(self.folder, "loads.csv"), [Decimal(0)] * self.periods
+        if not loads:
+            self.notes.assumed("no load in loads.csv: demand is 0 in all periods")
+        varying = self.columns_of("loads", "p_set", loads)
         for name, row in loads.items():
-            if row.get("active", "") and not is_true(row["active"]):
+            if row.get("active", "") and not is_true(row["active"], f'load "{name}", active'):
                 self.notes.left_out("loads that aren't active", name)
                 continue
-            what = f'load "{name}", p_set'
-            if name in varying:
-                powers = self.numbers("loads-p_set.csv", name, varying[name], what)
-            else:
-                powers = [number(row.get("p_set", "0"), what) or Decimal(0)] * self.periods
+            powers = self.load(name, row, varying)
             sign = number(row.get("sign", "-1"), f'load "{name}", sign')
             for t, power in enumerate(powers):
                 total[t] += power * (1 if sign is None or sign < 0 else -1)
         lists_out_negative(total, "loads")
         return total
+
+    def load(self, name: str, row: Dict[str, str], varying: Dict[str, List[str]]) -> List[Decimal]:
+        """What a load takes in each snapshot."""
+        what = f'load "{name}", p_set'
+        if name in varying:
+            return self.numbers("loads-p_set.csv", name, varying[name], what)
+        power = number(row.get("p_set", ""), what)
+        if power is None:
+            self.notes.assumed("a load without p_set takes nothing", name)
+        return [power or Decimal(0)] * self.periods
 
     def series(self, name: str, key: str, default: str) -> List[Decimal]:
         what, varying = f'generator "{name}", {key}', self.varying[key]
@@ -166,6 +200,16 @@ class Network:
 
     def value(self, name: str, key: str) -> Optional[Decimal]:
         return number(self.generators[name].get(key, ""), f'generator "{name}", {key}')
+
+    def flag(self, name: str, key: str) -> bool:
+        return is_true(self.generators[name].get(key, ""), f'generator "{name}", {key}')
+
+    def size(self, name: str) -> Decimal:
+        """What a generator can give at most, in MW."""
+        found = self.value(name, "p_nom")
+        if found is None:
+            self.notes.assumed("a generator without p_nom gives nothing", name)
+        return found or Decimal(0)
 
     def whole(self, name: str, key: str, default: int) -> int:
         found = self.value(name, key)
@@ -177,27 +221,22 @@ class Network:
         """Committable units are thermal; so are others with a cost, or whose power may rise only; the rest is renewable."""
         row = self.generators[name]
         self.drop_columns(name)
-        if row.get("active", "") and not is_true(row["active"]):
+        if row.get("active", "") and not self.flag(name, "active"):
             self.notes.left_out("generators that aren't active", name)
             return
-        if is_true(row.get("p_nom_extendable", "")):
+        if self.flag(name, "p_nom_extendable"):
             self.notes.left_out("that a capacity may be extended: p_nom is taken", name)
         most, least, cost = (
             self.series(name, key, default)
             for key, default in (("p_max_pu", "1"), ("p_min_pu", "0"), ("marginal_cost", "0"))
         )
         varies = len(set(most)) > 1 or len(set(least)) > 1
-        if not is_true(row.get("committable", "")) and (varies or not any(cost)):
-            size = self.value(name, "p_nom") or Decimal(0)
-            if any(cost):
-                self.notes.left_out(
-                    "costs of generators whose p_max_pu changes over time: a renewable unit has none", name
-                )
-            case["renewable_generators"][name] = {
-                "power_output_minimum": [size * it for it in least],
-                "power_output_maximum": [size * it for it in most],
-            }
-            return
+        if not self.flag(name, "committable"):
+            self.drop_stand_by(name)
+            has_cost = any(cost) or bool(self.value(name, "marginal_cost_quadratic"))
+            if varies or not has_cost:
+                case["renewable_generators"][name] = self.renewable(name, least, most, has_cost)
+                return
         if varies:
             self.notes.left_out(
                 "p_min_pu and p_max_pu of committable units that change over time: the greatest are taken", name
@@ -206,16 +245,37 @@ class Network:
             self.notes.left_out("marginal costs that change over time: the first is taken", name)
         case["thermal_generators"][name] = self.thermal(name, max(least), max(most), cost[0])
 
+    def drop_stand_by(self, name: str) -> None:
+        if self.value(name, "stand_by_cost"):
+            what = "stand_by_cost of generators that aren't committable: PyPSA charges it to committable ones alone"
+            self.notes.left_out(what, name)
+
+    def renewable(self, name: str, least: List[Decimal], most: List[Decimal], has_cost: bool) -> Object:
+        """A renewable unit; what such a unit hasn't is noted."""
+        if has_cost:
+            self.notes.left_out("costs of generators whose p_max_pu changes over time: a renewable unit has none", name)
+        for key in ("ramp_limit_up", "ramp_limit_down"):
+            share = None if self.is_free(name, key) else self.value(name, key)
+            if share is not None and share < max(most) - min(least):
+                self.notes.left_out(f"{key} of generators that become renewable units: such a unit has none", name)
+        if self.value(name, "p_init"):
+            self.notes.left_out("p_init of generators that become renewable units: such a unit has none", name)
+        size = self.size(name)
+        return {"power_output_minimum": [size * it for it in least], "power_output_maximum": [size * it for it in most]}
+
+    def is_free(self, name: str, key: str) -> bool:
+        """Whether a ramp has no limit."""
+        return self.generators[name].get(key, "").strip().lower() in INFINITE
+
     def thermal(self, name: str, least_pu: Decimal, most_pu: Decimal, cost: Decimal) -> Object:
-        row, size = self.generators[name], self.value(name, "p_nom") or Decimal(0)
+        size = self.size(name)
         least, most = size * least_pu, size * most_pu
 
         def ramp(key: str) -> Decimal:
-            is_free = row.get(key, "").strip().lower() in INFINITE
-            share = None if is_free else self.value(name, key)
+            share = None if self.is_free(name, key) else self.value(name, key)
             return most if share is None else min(most, size * share)
 
-        committable = is_true(row.get("committable", ""))
+        committable = self.flag(name, "committable")
         on = self.whole(name, "up_time_before", 1) if committable else 1
         off, min_off = (self.whole(name, key, 0) for key in ("down_time_before", "min_down_time"))
         if not committable:
@@ -249,7 +309,9 @@ class Network:
         }
 
     def curve(self, name: str, least: Decimal, most: Decimal, cost: Decimal) -> List[Object]:
-        fixed, square = (self.value(name, it) or Decimal(0) for it in ("stand_by_cost", "marginal_cost_quadratic"))
+        square = self.value(name, "marginal_cost_quadratic") or Decimal(0)
+        is_charged = self.flag(name, "committable")
+        fixed = (self.value(name, "stand_by_cost") if is_charged else None) or Decimal(0)
         pieces = PIECES if square and most > least else 1
         if pieces > 1:
             self.notes.changed(f"quadratic costs are cut into {PIECES} straight pieces", name)
@@ -263,8 +325,7 @@ class Network:
             self.notes.left_out("shut-down costs", name)
         for key, text in self.generators[name].items():
             said = key in READ or key in SAID or key in ("shut_down_cost", "p_nom_extendable", "p_nom_opt")
-            nothing = ("", "nan", "0", "0.0", "false", "inf", *(("1", "1.0") if key == "sign" else ()))
-            if not said and text.strip().lower() not in nothing:
+            if not said and text.strip().lower() not in DEFAULTS.get(key, NOTHING):
                 self.notes.left_out(f"generators.csv: the column {key}", name)
 
     def drop_files(self) -> None:

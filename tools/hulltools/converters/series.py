@@ -44,6 +44,13 @@ def decimal(value: Any, what: str) -> Decimal:
     return Decimal(value)
 
 
+def flag(value: Any, what: str) -> bool:
+    """What is true or false, or 1 or 0; a text such as "0" isn't taken, since it is told apart from no other text."""
+    if isinstance(value, bool) or is_number(value) and value in (0, 1):
+        return bool(value)
+    raise HullError(f"{one_line(what)}: true, false, 0 or 1 is due, and {one_line(repr(value)[:60])} is found")
+
+
 def series(value: Any, periods: int, what: str) -> List[Decimal]:
     """A number for each period: a list of them, or one for all."""
     if isinstance(value, list):
@@ -82,10 +89,21 @@ def first(found: Sequence[Decimal]) -> Decimal:
 def in_periods(hours: Any, per_hour: Fraction, what: str, notes: Notes, name: str) -> int:
     """A time in hours as periods, rounded up where it is no whole number of them, which is noted."""
     time = Fraction(decimal(hours, f"{name}, {what}")) * per_hour
+    if time < 0:
+        raise HullError(one_line(f"{name}, {what}: a time is at least 0, and {hours} is found"))
     whole = -(-time.numerator // time.denominator)
     if whole != time:
         notes.changed(f"{what} that is no whole number of periods is rounded up", name)
-    return max(0, whole)
+    return whole
+
+
+def status_of(hours: Any, per_hour: Fraction, what: str, notes: Notes, name: str) -> int:
+    """A signed time in hours before period 1 as periods: on for so long, or off where it is below 0."""
+    number = decimal(hours, f"{name}, {what}")
+    if not number:
+        raise HullError(one_line(f"{name}, {what}: it is above 0 of a unit that is on, and below 0 of one that is off"))
+    periods = in_periods(abs(number), per_hour, what, notes, name)
+    return periods if number > 0 else -periods
 
 
 def scaled(number: Decimal, factor: Fraction) -> Decimal:

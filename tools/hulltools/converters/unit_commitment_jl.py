@@ -5,13 +5,13 @@ from decimal import Decimal
 from fractions import Fraction
 from typing import Any, List, Optional, Tuple
 
-from ..errors import HullError
-from ..json_texts import is_number
+from ..errors import HullError, one_line
 from .notes import Notes, Object, Taken
 from .series import (
     constant,
     decimal,
     first,
+    flag,
     in_periods,
     length_in_words,
     limit,
@@ -20,6 +20,7 @@ from .series import (
     points_of,
     series,
     state_before,
+    status_of,
     sum_of,
 )
 
@@ -42,10 +43,13 @@ class Instance:
     def horizon(self) -> Tuple[int, Fraction]:
         """The number of periods, and how many there are in an hour."""
         take = self.parameters.first
-        minutes = Fraction(decimal(take("Time step (min)") or 60, "Time step (min)"))
+        step = take("Time step (min)")
+        minutes = Fraction(decimal(60 if step is None else step, "Time step (min)"))
         hours, whole = take("Time horizon (h)", "Time (h)"), take("Time horizon (min)")
         if hours is None and whole is None:
             raise HullError("Parameters: there is no `Time horizon (h)`")
+        if hours is not None and whole is not None:
+            raise HullError("Parameters: the time horizon stands twice, in hours and in minutes")
         length = (
             Fraction(decimal(hours, "Time horizon (h)")) * 60
             if whole is None
@@ -117,10 +121,13 @@ class Instance:
         for name, value in self.top.object("Generators").items():
             unit = Taken(value, "Generators", name, self.notes)
             unit.take("Bus")
-            if str(unit.take("Type", "Thermal")).lower() == "profiled":
+            kind = str(unit.take("Type", "Thermal")).lower()
+            if kind == "profiled":
                 renewable[name] = self.profiled(unit, name)
             else:
                 thermal[name] = self.thermal(unit, name)
+            if kind not in ("thermal", "profiled"):
+                self.notes.changed("generators that are neither thermal nor profiled are taken as thermal units", name)
             unit.rest()
         return thermal, renewable
 
@@ -153,7 +160,7 @@ class Instance:
         down = time("Minimum downtime (h)")
         lags = self.starts(unit, name)
         status, power = unit.take("Initial status (h)"), unit.take("Initial power (MW)")
-        periods_before = None if status is None else self.status(status, name)
+        periods_before = None if status is None else status_of(status, self.per_hour, "Initial status (h)", notes, name)
         before = state_before(periods_before, max([down, *(lag["lag"] for lag in lags)]), notes, name)
         if power is None and before["unit_on_t0"]:
             notes.assumed("no initial power of a unit that is on: its least power", name)
@@ -178,11 +185,6 @@ class Instance:
         self.eligibility(unit, name)
         return found
 
-    def status(self, hours: Any, name: str) -> int:
-        number = decimal(hours, f"{name}, Initial status (h)")
-        periods = in_periods(abs(number), self.per_hour, "Initial status (h)", self.notes, name)
-        return periods if number > 0 else -periods
-
     def curve(self, unit: Taken, name: str, key: str) -> List[Decimal]:
         rows = unit.take(key)
         if not isinstance(rows, list) or not rows:
@@ -200,20 +202,34 @@ class Instance:
 
     def commitment(self, unit: Taken, found: Object, name: str) -> None:
         """Must-run, and a commitment that is given period by period."""
-        must, given = unit.take("Must run?", False), unit.take("Commitment status")
+        must, given = (self.flags(unit, key, name) for key in ("Must run?", "Commitment status"))
         if isinstance(must, list):
-            given = [1 if now else it for now, it in zip(must, given or [None] * len(must))]
-        elif is_number(must) and must or must is True:
+            pairs = list(zip(must, given or [None] * len(must)))
+            if (1, 0) in pairs:
+                period = pairs.index((1, 0)) + 1
+                raise HullError(
+                    one_line(f'generator "{name}": it must run in period {period}, and its status is 0 there')
+                )
+            given = [1 if now else it for now, it in pairs]
+        elif must:
             found["must_run"] = 1
         if given is not None:
-            if not isinstance(given, list) or len(given) != self.periods:
-                raise HullError(f'generator "{name}": Commitment status isn\'t a list of {self.periods} items')
-            found["commitment"] = [None if it is None else int(bool(it)) for it in given]
+            found["commitment"] = given
+
+    def flags(self, unit: Taken, key: str, name: str) -> Any:
+        """A list over the periods of 0, 1 and None; or a flag for all of them, where that may be."""
+        value, what = unit.take(key), f'generator "{name}", {key}'
+        if value is None or key == "Must run?" and not isinstance(value, list):
+            return None if value is None else flag(value, what)
+        if not isinstance(value, list) or len(value) != self.periods:
+            raise HullError(f"{one_line(what)} isn't a list of {self.periods} items")
+        return [None if it is None else int(flag(it, what)) for it in value]
 
     def eligibility(self, unit: Taken, name: str) -> None:
         """In `hull` each thermal unit may keep reserve."""
         spins, listed = unit.take("Provides spinning reserves?"), unit.list("Reserve eligibility", [])
-        is_barred = spins is False or self.reserve_name is not None and self.reserve_name not in listed
+        is_spinning = spins is None or flag(spins, f'generator "{name}", Provides spinning reserves?')
+        is_barred = not is_spinning or self.reserve_name is not None and self.reserve_name not in listed
         if is_barred:
             self.notes.left_out("that a thermal unit isn't eligible for reserve: in hull each may keep reserve", name)
 
