@@ -16,12 +16,14 @@ Value = Union[Dict[str, "Node"], List["Node"], int, Decimal, str, bool, None, "O
 MOST_FAULTS = 100_000  # of a text, that are kept
 SPACE = re.compile(r"[ \t\n\r]*")
 TOKEN = re.compile(
-    r'(?P<mark>[{}\[\],:])|(?P<text>"(?:[^"\\\x00-\x1f]|\\(?:["\\/bfnrt]|u[0-9a-fA-F]{4}))*")'
-    r"|(?P<number>-?(?:0|[1-9][0-9]*)(?:\.[0-9]+)?(?:[eE][-+]?[0-9]+)?(?![-+.eE0-9]))|(?P<word>(?:true|false|null)(?![a-z]))"
+    r"(?P<mark>[{}\[\],:])|(?P<number>-?(?:0|[1-9][0-9]*)(?:\.[0-9]+)?(?:[eE][-+]?[0-9]+)?(?![-+.eE0-9]))|(?P<word>(?:true|false|null)(?![a-z]))"
 )
+STRINGS = json.JSONDecoder()  # (an expression for a string would keep a state for each of its parts)
 SHORT = r"-?(?:0|[1-9][0-9]{0,14})(?:\.[0-9]{1,14})?"
 SHORT_NUMBER = re.compile(SHORT)
-NUMBERS = re.compile(rf"[ \t\n\r]*{SHORT}(?:[ \t\n\r]*,[ \t\n\r]*{SHORT})*[ \t\n\r]*\]")
+NUMBERS = re.compile(
+    rf"(?:[ \t\n\r]*{SHORT}[ \t\n\r]*,){{1,999}}"
+)  # (at most so many, since each has a state of its own)
 ODD = re.compile(r"[-+.\w]+")
 WORDS = {"true": True, "false": False, "null": None}
 GROUP_WORDS = {
@@ -86,6 +88,15 @@ def exact(text: str) -> Union[int, Decimal]:
     return Decimal(text) if "." in text or "e" in text or "E" in text else int(text)
 
 
+def string_end(text: str, at: int) -> Optional[int]:
+    """The place behind a string that begins there, or None where it is none, or has what isn't UTF-8."""
+    try:
+        _, end = STRINGS.raw_decode(text, at)
+    except ValueError:
+        return None
+    return None if LONE.search(text, at, end) else end
+
+
 class Ended(Exception):
     """The rest of the text can't be read."""
 
@@ -113,8 +124,13 @@ class Reader:
         """Kind, text and place of the next token; an odd one has the kind `odd`."""
         match = SPACE.match(self.text, self.at)
         self.at = match.end() if match else self.at
-        found, at = TOKEN.match(self.text, self.at), self.at
-        if found and not (found.lastgroup == "text" and LONE.search(found.group())):
+        at = self.at
+        end = string_end(self.text, at) if self.text[at : at + 1] == '"' else None
+        if end is not None:
+            self.at = end
+            return "text", self.text[at:end], at
+        found = TOKEN.match(self.text, at)
+        if found:
             self.at = found.end()
             return str(found.lastgroup), found.group(), at
         odd = ODD.match(self.text, self.at)
@@ -166,24 +182,29 @@ class Reader:
             return Odd(text)
         return exact(text)
 
-    def list_from(self, depth: int) -> List[Node]:
-        plainly = NUMBERS.match(self.text, self.at)
-        if plainly:  # (most of a large file is such lists)
-            begin, self.at = self.at, plainly.end()
-            return [Node(exact(it.group()), it.start()) for it in SHORT_NUMBER.finditer(self.text, begin, self.at)]
+    def numbers(self) -> List[Node]:
+        """Short numbers in a row, each with a comma behind: most of a large file is such."""
         found: List[Node] = []
-        token = self.token()
-        if token[1] == "]" and token[0] == "mark":
-            return found
+        while row := NUMBERS.match(self.text, self.at):
+            found += (
+                Node(exact(one.group()), one.start()) for one in SHORT_NUMBER.finditer(self.text, self.at, row.end())
+            )
+            self.at = row.end()
+        return found
+
+    def list_from(self, depth: int) -> List[Node]:
+        found: List[Node] = []
         while True:
+            found += self.numbers()
+            token = self.token()
+            if token[:2] == ("mark", "]"):
+                if found:
+                    self.fault(10, token[2])
+                return found
             self.path.append(len(found) + 1)
             found.append(self.value(depth + 1, token))
             self.path.pop()
             if self.ends("]"):
-                return found
-            token = self.token()
-            if token[:2] == ("mark", "]"):
-                self.fault(10, token[2])
                 return found
 
     def ends(self, mark: str) -> bool:

@@ -1,9 +1,10 @@
 """JSON texts in the profile of docs/FORMATS.md; a number with a fraction or an exponent is a Decimal."""
 from __future__ import annotations
 
+import contextlib
 import json
 import re
-from collections.abc import Iterable, Mapping
+from collections.abc import Iterable, Iterator, Mapping
 from decimal import Decimal
 from typing import TYPE_CHECKING, Any
 
@@ -14,6 +15,7 @@ if TYPE_CHECKING:
     from typing_extensions import TypeGuard  # (in `typing` from Python 3.10 on)
 
 MOST_DIGITS, MOST_EXPONENT, MOST_DEPTH = 30, 400, 32
+STATUS = {"case": 3, "schedule": 4, "prices": 9, "mixture": 10}  # of the program, by the file that it refuses
 LONE = re.compile("[\ud800-\udfff]")
 
 
@@ -115,12 +117,26 @@ def json_string(text: str) -> str:
     return json.dumps(text, ensure_ascii=LONE.search(text) is not None)
 
 
-def read_json(name: Name, what: str) -> Any:
-    """The value of a file; `what` says what it is to be, as 'a case'."""
+@contextlib.contextmanager
+def refused_as(what: str) -> Iterator[None]:
+    """Gives what is refused of a file, or of what stands for it, the status that the program has for such a file, as 3 for a case."""
     try:
-        return parse(read_bytes(name, what))
+        yield
+    except HullError as why:
+        why.status = STATUS.get(what) if why.status is None else why.status
+        raise
+
+
+def read_json(name: Name, what: str) -> Any:
+    """The value of a file; `what` says what it is to be, as 'a case'. `HullError` has the code and the place that `hull` says of the text."""
+    with refused_as(what.split()[-1]):
+        data = read_bytes(name, what)
+    try:
+        return parse(data)
     except Refused as why:
-        raise HullError(f"{name}: no JSON text as {what} has it: {why}") from None
+        from .text_refusals import text_refusal
+
+        raise text_refusal(name, what, data, str(why)) from None
 
 
 def is_number(value: object) -> TypeGuard[Number]:

@@ -2,7 +2,7 @@
 from __future__ import annotations
 
 from dataclasses import dataclass
-from typing import Callable, List, Optional, Tuple, Union
+from typing import Callable, List, Optional, Tuple
 
 from .cases import COST, MOST_BLOCKS, MOST_ITEMS, MOST_OF_A_KIND, MOST_PERIODS, OUTPUT, POWER, TIME
 from .json_places import Node, Odd, number_at

@@ -3,20 +3,22 @@ from __future__ import annotations
 
 import json
 import math
-import os
 import random
 import re
 import shutil
 import subprocess
 import tempfile
 import time
+import tracemalloc
 import unittest
+from decimal import Decimal
 from typing import Any, Callable, Dict, Iterator, List, Optional, Tuple
 
 import market
 from tool import EXAMPLES, PROGRAM, ROOT, run
 
 from hulltools.errors import HullError
+from hulltools.json_places import located, plain
 from hulltools.lint import first_look, look
 from hulltools.lint_findings import Level, ranges
 
@@ -314,6 +316,36 @@ class WithFiles(unittest.TestCase):
         case, schedule, prices = (f"{self.room}/{it}.json" for it in FILES)
         words = [command, "--case", case, "--schedule", schedule, "--prices", prices, *more]
         return subprocess.run([PROGRAM, *words], capture_output=True, text=True).stdout.split("\n")[0]
+
+
+class Large(unittest.TestCase):
+    def test_a_long_string_or_list_takes_a_few_times_its_bytes(self) -> None:
+        """A text of 5 MB each, of one string, of its escapes, and a list of 200 kB, whose numbers have a place each."""
+        texts = (b'{"a": "%s"}' % (b"x" * 5_000_000), b'{"%s": 1}' % (b"\\n" * 2_500_000), b"[%s1]" % (b"1," * 100_000))
+        for text, most in zip(texts, (8, 8, 100)):
+            tracemalloc.start()
+            found = located("case", text)
+            peak = tracemalloc.get_traced_memory()[1]
+            tracemalloc.stop()
+            self.assertEqual((found.root is None, found.faults), (False, []))
+            self.assertLess(peak, most * len(text))
+
+    def test_what_stands_in_lists_and_strings_is_found(self) -> None:
+        faults = {
+            b"[1,2,]": (10, 5),
+            b"[1,02,3]": (10, 3),
+            b'["a\tb"]': (10, 1),
+            b'["\\u12g4"]': (10, 1),
+            b'["\xff"]': (10, 1),
+            b'["\\ud800"]': (10, 1),
+            b'["a': (10, 1),
+            b"[1 , 2 , 1234567890123456789012345678901, 3]": (11, 9),
+        }
+        for text, due in faults.items():
+            self.assertEqual([(it.code, it.at) for it in located("case", text).faults], [due], text)
+        root = located("case", b'[ 1 ,2.5, "a\\"" ,[], [3], 4 ]').root
+        self.assertIsNotNone(root)
+        self.assertEqual(plain(root), [1, Decimal("2.5"), 'a"', [], [3], 4])
 
 
 class Mistakes(WithFiles):

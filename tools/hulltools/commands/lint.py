@@ -12,16 +12,19 @@ usage: lint.py CASE [SCHEDULE] [--prices F] [--mixture F] [--highest-cost C] [--
   --json           the findings as JSON: level, rule, file, line, kind, unit, periods, text and, of an error, the fault line of hull
 
 An error is what `hull` refuses; a warning is what it takes without a word though it is odd. Status 0 says that nothing is odd, 1 that
-there are warnings, 2 that there are errors. It needs neither the program nor SciPy.
+there are warnings, 2 that there are errors, or words that can't be. Status 6 says that the answer couldn't be written, 7 that there is none, as
+where there is no memory. It needs neither the program nor SciPy.
 """
 import json
 from fractions import Fraction
 from typing import Callable, Optional, Sequence
 
-from ..errors import need_output, run_tool
+from ..errors import Ends, need_output, run_tool
 from ..lint import Limits, look
 from ..telling import is_shown, write_lines, write_text
 from .words import asker, count, hours, positive
+
+STATUSES = Ends(refused=7, no_output=6, no_memory=7)  # (1 and 2 are answers; the program has 6 and 7 for these too)
 
 
 def body(words: Sequence[str], tell: Callable[[str], None]) -> int:
@@ -47,4 +50,4 @@ def body(words: Sequence[str], tell: Callable[[str], None]) -> int:
 
 
 def main(words: Optional[Sequence[str]] = None) -> int:
-    return int(run_tool("lint.py", body, words))
+    return int(run_tool("lint.py", body, words, STATUSES))
