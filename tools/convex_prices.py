@@ -1,10 +1,16 @@
 #!/usr/bin/env python3
 """Finds prices near convex hull prices, and the mixture that certifies them; `convex_prices.py --help` says how."""
+import os
 import sys
 
 sys.dont_write_bytecode = True  # (the folder is the repository's)
+sys.path.insert(0, os.path.dirname(os.path.realpath(__file__)))  # (`python3 -I` and PYTHONSAFEPATH leave it out)
 
-from hulltools.commands.convex_prices import main  # noqa: E402
+try:
+    from hulltools.commands.convex_prices import main
+except MemoryError:
+    sys.stderr.write("convex_prices.py: no memory\n")
+    sys.exit(1)
 
 if __name__ == "__main__":
     sys.exit(main())

@@ -1,10 +1,16 @@
 #!/usr/bin/env python3
 """Finds extended LMPs, with fast-start units relaxed; `elmp.py --help` says how."""
+import os
 import sys
 
 sys.dont_write_bytecode = True  # (the folder is the repository's)
+sys.path.insert(0, os.path.dirname(os.path.realpath(__file__)))  # (`python3 -I` and PYTHONSAFEPATH leave it out)
 
-from hulltools.commands.elmp import main  # noqa: E402
+try:
+    from hulltools.commands.elmp import main
+except MemoryError:
+    sys.stderr.write("elmp.py: no memory\n")
+    sys.exit(1)
 
 if __name__ == "__main__":
     sys.exit(main())

@@ -1,10 +1,16 @@
 #!/usr/bin/env python3
 """Makes a feasible schedule in whole kilowatts for a case; `make_schedule.py --help` says how."""
+import os
 import sys
 
 sys.dont_write_bytecode = True  # (the folder is the repository's)
+sys.path.insert(0, os.path.dirname(os.path.realpath(__file__)))  # (`python3 -I` and PYTHONSAFEPATH leave it out)
 
-from hulltools.commands.make_schedule import main  # noqa: E402
+try:
+    from hulltools.commands.make_schedule import main
+except MemoryError:
+    sys.stderr.write("make_schedule.py: no memory\n")
+    sys.exit(1)
 
 if __name__ == "__main__":
     sys.exit(main())

@@ -1,10 +1,16 @@
 #!/usr/bin/env python3
 """Studies a case under changes, one after the other; `sweep.py --help` says how."""
+import os
 import sys
 
 sys.dont_write_bytecode = True  # (the folder is the repository's)
+sys.path.insert(0, os.path.dirname(os.path.realpath(__file__)))  # (`python3 -I` and PYTHONSAFEPATH leave it out)
 
-from hulltools.commands.sweep import main  # noqa: E402
+try:
+    from hulltools.commands.sweep import main
+except MemoryError:
+    sys.stderr.write("sweep.py: no memory\n")
+    sys.exit(1)
 
 if __name__ == "__main__":
     sys.exit(main())

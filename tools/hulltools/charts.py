@@ -4,6 +4,8 @@ import math
 from collections.abc import Iterable, Sequence
 from typing import Optional
 
+from .telling import one_line
+
 WIDTH, HEIGHT, LEFT, RIGHT, TOP, BOTTOM = 720, 280, 104, 14, 14, 52
 
 
@@ -24,7 +26,7 @@ class Chart:
         room = max((high - low) * 0.05, max(abs(low), abs(high)) * 1e-6, 1e-3)
         self.low, self.high = low - room * (low != 0), high + room
         self.first, self.last = first, max(last, first + 1)
-        self.parts = [f'<svg viewBox="0 0 {WIDTH} {HEIGHT}" role="img" aria-label="{html.escape(title)}">']
+        self.parts = [f'<svg viewBox="0 0 {WIDTH} {HEIGHT}" role="img" aria-label="{html.escape(one_line(title))}">']
         for at in ticks(self.low, self.high):
             y = self.y(at)
             self.parts.append(
@@ -49,7 +51,9 @@ class Chart:
 
     def name_x(self, text: str) -> None:
         middle = (LEFT + WIDTH - RIGHT) / 2
-        self.parts.append(f'<text x="{middle}" y="{HEIGHT - 6}" text-anchor="middle">{html.escape(text)}</text>')
+        self.parts.append(
+            f'<text x="{middle}" y="{HEIGHT - 6}" text-anchor="middle">{html.escape(one_line(text))}</text>'
+        )
 
     def polyline(self, points: Iterable[tuple[float, float]], style: str) -> None:
         told = " ".join(f"{self.x(at):.1f},{self.y(it):.1f}" for at, it in points)
@@ -87,6 +91,6 @@ def steps_chart(
         chart.steps(row, style)
     # (times are longer than numbers, and have to fit on a narrow page too)
     for t in range(1, periods + 1, max(1, periods // (6 if labels and labels[0] != "1" else 12))):
-        chart.label_x(html.escape(labels[t - 1]) if labels else t, t + 0.5)
+        chart.label_x(html.escape(one_line(labels[t - 1])) if labels else t, t + 0.5)
     chart.name_x(name_x)
     return chart.svg()

@@ -1,19 +1,17 @@
 """Amounts by unit of a statement beside those of a settlement."""
-import csv
-import io
 import re
 from dataclasses import dataclass
 from decimal import Decimal, InvalidOperation
 from typing import Dict, List, Optional
 
-from .errors import HullError, one_line, refuse_more_cells, refuse_twice_named, rows_told_with
+from .errors import HullError, named_rows, one_line, refuse_line_end
 from .numbers import Millionths
 from .outputs import Owed
 from .settlement_rules import paid
-from .tables import Table
+from .tables import Table, as_it_was
 
 LARGEST = 10**15
-AMOUNT = re.compile(r"[+-]?(?:[0-9]{1,3}(?:,[0-9]{3})+|[0-9]*)(?:\.[0-9]*)?(?:[eE][+-]?[0-9]{1,3})?")
+AMOUNT = re.compile(r"[+-]?(?:[1-9][0-9]{0,2}(?:,[0-9]{3})+|[0-9]*)(?:\.[0-9]*)?(?:[eE][+-]?[0-9]{1,3})?")
 
 
 @dataclass(frozen=True)
@@ -42,19 +40,17 @@ def amount_of(text: str, where: str) -> Millionths:
 
 def statement_of(name: str, text: str, unit: str = "unit", amount: str = "amount") -> Dict[str, Millionths]:
     """The amounts by unit of a statement with these columns; what stands in several rows of one unit is added up."""
-    rows = csv.DictReader(io.StringIO(text.removeprefix("\ufeff")))
-    with rows_told_with(name):
-        missing = [it for it in (unit, amount) if it not in (rows.fieldnames or [])]
+    columns, rows = named_rows(text.removeprefix("\ufeff"), name)
+    missing = [it for it in (unit, amount) if it not in columns]
     if missing:
         raise HullError(f"{name}: there is no column {missing[0]!r}")
-    refuse_twice_named(rows.fieldnames, name)
     found: Dict[str, Millionths] = {}
-    with rows_told_with(name):
-        for number, row in enumerate(rows, 2):
-            refuse_more_cells(row, f"{name}, row {number}")
-            key = (row[unit] or "").strip()
-            more = amount_of(row[amount] or "", f"{name}, row {number}")
-            found[key] = Millionths(found.get(key, 0) + more)
+    for line, row in rows:
+        for column in (it for it in columns if it != unit):
+            refuse_line_end(row[column], f"{name}, line {line}")
+        # (tables of this package tell names of a spreadsheet's formulas apart)
+        key = as_it_was(row[unit].strip())
+        found[key] = Millionths(found.get(key, 0) + amount_of(row[amount], f"{name}, line {line}"))
     return found
 
 

@@ -2,7 +2,8 @@
 from dataclasses import dataclass
 from typing import Optional
 
-from .numbers import money
+from .errors import HullError
+from .numbers import Millionths, money
 
 
 @dataclass(frozen=True)
@@ -10,25 +11,26 @@ class GapParts:
     """A schedule's cost less a list's dual value, in millionths.
 
     `schedule` is the cost less that of the best schedule known, None where only this one is. `duality` is the latter cost less the upper
-    bound on the dual value: no prices save it. `prices` is that bound less the list's value: no better prices save more. Without such a
+    bound on the dual value: no whole prices within the limits of prices save it. `prices` is that bound less the list's value: no better prices save more. Without such a
     bound `duality` is None, and `prices` is all the rest.
     """
 
-    schedule: Optional[int]
-    duality: Optional[int]
-    prices: int
+    schedule: Optional[Millionths]
+    duality: Optional[Millionths]
+    prices: Millionths
 
     @property
-    def gap(self) -> int:
-        return (self.schedule or 0) + self.without_schedule
+    def gap(self) -> Millionths:
+        return Millionths((self.schedule or 0) + self.without_schedule)
 
     @property
-    def without_schedule(self) -> int:
+    def without_schedule(self) -> Millionths:
         """What is left of the gap at the best schedule known."""
-        return (self.duality or 0) + self.prices
+        return Millionths((self.duality or 0) + self.prices)
 
-    def sentence(self, where: str) -> str:
-        """The three in one sentence."""
+    def sentence(self, where: str, is_near: bool = True) -> str:
+        """The three in one sentence; where the bound isn't near the best, the duality gap is at least what it says."""
+        least, part = ("", "") if is_near else ("at least ", "a part of ")
         if self.duality is None:
             own = "" if self.schedule is None else f"{money(self.schedule)} is the schedule's part, and "
             return (
@@ -37,23 +39,25 @@ class GapParts:
             )
         if self.schedule is None:
             return (
-                f"{where} the gap is {money(self.gap)}: no prices save {money(self.duality)}, the schedule's part and the duality gap "
-                f"together, and at most {money(self.prices)} is the prices' part."
+                f"{where} the gap is {money(self.gap)}: no whole prices within the limits of prices save {money(self.duality)}, "
+                f"{part}the schedule's part and the duality gap together, and at most {money(self.prices)} is the prices' part."
             )
         return (
-            f"{where} the gap is {money(self.gap)}: {money(self.schedule)} is the schedule's part, {money(self.duality)} is the duality gap, "
-            f"which no prices save, and at most {money(self.prices)} is the prices' part."
+            f"{where} the gap is {money(self.gap)}: {money(self.schedule)} is the schedule's part, {least}{money(self.duality)} is the duality gap, "
+            f"which no whole prices within the limits of prices save, and at most {money(self.prices)} is the prices' part."
         )
 
 
 def gap_parts(cost: int, value: int, bound: Optional[int], best_cost: Optional[int]) -> GapParts:
     """The parts of cost less value, by the upper bound on the dual value and the cost of the best schedule known.
 
-    The cost of a feasible schedule is itself such a bound, so the lesser of the two is taken.
+    The cost of a feasible schedule is itself such a bound, so the lesser of the two is taken. No value is above its bound.
     """
+    if bound is not None and bound < value:
+        raise HullError(f"the dual value {money(value)} is above its bound {money(bound)}: they are of two cases")
     best = cost if best_cost is None else min(cost, best_cost)
-    schedule = None if best_cost is None else cost - best
+    schedule = None if best_cost is None else Millionths(cost - best)
     if bound is None:
-        return GapParts(schedule, None, best - value)
+        return GapParts(schedule, None, Millionths(best - value))
     upper = min(bound, best)
-    return GapParts(schedule, best - upper, upper - value)
+    return GapParts(schedule, Millionths(best - upper), Millionths(upper - value))

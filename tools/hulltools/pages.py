@@ -7,7 +7,7 @@ from typing import Optional
 from .charts import Chart, steps_chart
 from .numbers import Kilowatts, decimal_text, money
 from .errors import HullError, one_line
-from .outputs import AnyPriced, Certificate, Convex, Owed, Report
+from .outputs import RADIUS, AnyPriced, Certificate, Convex, Owed, Report
 from .schedules import Schedule
 
 SHOWN = 25  # how many units the picture of payments names
@@ -110,7 +110,7 @@ def document(title: str, body: str, scripts: Iterable[str], data: Optional[dict[
     return (
         '<!doctype html>\n<html lang="en"><head><meta charset="utf-8">'
         '<meta name="viewport" content="width=device-width, initial-scale=1">\n'
-        f"<title>{html.escape(title)}</title>\n<style>{STYLE}</style></head><body>\n{body}\n{held}\n"
+        f"<title>{html.escape(one_line(title))}</title>\n<style>{STYLE}</style></head><body>\n{body}\n{held}\n"
         f"<script>{''.join(scripts)}</script></body></html>\n"
     )
 
@@ -230,8 +230,8 @@ def value_part(report: Report) -> str:
     return f"<h2>Dual value by proposal</h2><p>{key}</p>{chart.svg()}"
 
 
-def nearness(priced: AnyPriced, certificate: Optional[Certificate]) -> str:
-    """In one sentence how near the prices are to the best, as far as something says so."""
+def nearness(priced: AnyPriced, certificate: Optional[Certificate], is_own: bool = False) -> str:
+    """How near the prices are to the best, as far as something says so; `is_own` where the certificate was made of these prices and this case."""
     gap = money(priced.gap)
     if certificate is None and isinstance(priced, Convex):
         return (
@@ -243,13 +243,42 @@ def nearness(priced: AnyPriced, certificate: Optional[Certificate]) -> str:
             f"Payments and surplus are {gap} together. How much of that other prices could save isn't said by this text; hull certify "
             "says it, from a mixture such as hull convex finds."
         )
-    if (certificate.cost, certificate.value) != (priced.cost, priced.best.value):
-        raise HullError(f"{certificate.name}: this certificate is of other prices or of another schedule")
-    within = "" if certificate.radius >= 20_000_000 else f" within {money(certificate.radius * 1000)} per MWh of these"
+    need_sums_of(priced, certificate)
+    is_local = certificate.radius < RADIUS[1]
+    least, distance = money(certificate.least), money(certificate.distance)
+    if is_own:
+        within = f" within {money(certificate.radius * 1000)} per MW and period of these" if is_local else ""
+        return (
+            f"No whole prices within the limits{within and f' and{within}'} need less than {least} of payments and surplus for this schedule; these need "
+            f"{gap}, and their dual value is within {distance} of the greatest{' there' * is_local}."
+        )
+    within = f" and within {money(certificate.radius * 1000)} per MW and period of its prices" if is_local else ""
     return (
-        f"No whole prices within the limits{within} need less than {money(certificate.least)} of payments and surplus for this schedule; these need "
-        f"{gap}, and their dual value is within {money(certificate.distance)} of the greatest."
+        f"Payments and surplus are {gap} together. A certificate with the same sums is given. It holds neither case nor prices, so this page can't tell "
+        f"whether it is of these: --mixture can. By it no whole prices within the limits{within} need less than {least} for its schedule, and the dual "
+        f"value of its prices is within {distance} of the greatest{' there' * is_local}."
     )
+
+
+def need_sums_of(priced: AnyPriced, certificate: Certificate) -> None:
+    """Refuses a certificate that differs in anything that both texts hold."""
+    both = {
+        "periods": (priced.periods, certificate.periods),
+        "units": (len(priced.units), certificate.units),
+        "cost": (priced.cost, certificate.cost),
+        "value": (priced.best.value, certificate.value),
+        "surplus": (priced.surplus, certificate.surplus),
+        "payments": (priced.payments, certificate.payments),
+        "gap": (priced.gap, certificate.gap),
+    }
+    for name, (due, found) in both.items():
+        if due != found:
+            told = f"its {name} {'are' if name.endswith('s') and name != 'surplus' else 'is'} {found}, and the text's {due}"
+            raise HullError(
+                f"{certificate.name}: this certificate is of another case, of other prices or of another schedule: {told}"
+            )
+    if isinstance(priced, Convex) and certificate.bound < priced.best.value:
+        raise HullError(f"{certificate.name}: this certificate is of other prices: its bound is below the text's value")
 
 
 def sums_part(priced: AnyPriced) -> str:
@@ -274,8 +303,13 @@ TITLES = {
 HEADS = ("*Kind", "*Name", "Earned", "Scheduled", "Payment", "Make-whole", "Lost opportunity", "Response, MW periods")
 
 
-def page_of(priced: AnyPriced, schedule: Optional[Schedule] = None, certificate: Optional[Certificate] = None) -> str:
-    """The page of a report or a settlement."""
+def page_of(
+    priced: AnyPriced,
+    schedule: Optional[Schedule] = None,
+    certificate: Optional[Certificate] = None,
+    is_own: bool = False,
+) -> str:
+    """The page of a report or a settlement; `is_own` where the certificate was made of its prices and its case."""
     report = priced if isinstance(priced, Report) else None
     title = TITLES[priced.command]
     rows = "\n".join(unit_rows(priced.units, schedule))
@@ -290,7 +324,7 @@ def page_of(priced: AnyPriced, schedule: Optional[Schedule] = None, certificate:
     proposals = f", {len(priced.proposals)} proposals (the {report.chosen}. is chosen)" if report else ""
     body = f"""<h1>{title}</h1>
 <p>{shown(priced.name)}: {len(priced.units)} units over {priced.periods} periods{proposals}. Money is in the case's currency, prices are per MW and period: per MWh where a period is an hour.</p>
-{sums_part(priced)}<p class="said">{nearness(priced, certificate)}</p>
+{sums_part(priced)}<p class="said">{nearness(priced, certificate, is_own)}</p>
 {price_part(priced)}
 {value_part(report) if report else ""}
 <h2>Payments by unit</h2><p>What each is owed for following the schedule, beyond what it earns in it; the largest first.</p>{payment_bars(priced.units)}

@@ -7,16 +7,26 @@ import unicodedata
 from dataclasses import dataclass, field, replace
 from typing import TYPE_CHECKING, Callable, Dict, Iterator, List, Optional, Sequence, Set, Tuple, Union
 
-from .apart import OverTime
 from .cases import Case
 from .cash_flows import UnitFlows, unit_flows
 from .clock import Clock
 from .costs import Costs
-from .errors import Found, HullError, Interrupted, Tell, heard_later, one_line, raise_swallowed, taken, write_together
+from .errors import (
+    Found,
+    HullError,
+    Interrupted,
+    OverTime,
+    Tell,
+    heard_later,
+    one_line,
+    raise_swallowed,
+    taken,
+    write_together,
+)
 from .gap_parts import GapParts, gap_parts
-from .numbers import money
-from .options import hint_of, told_value
-from .outputs import Certificate, Owed, Settlement
+from .numbers import Millionths, money
+from .options import counted, hint_of, told_value
+from .outputs import Certificate, Convex, Owed, Settlement
 from .price_lists import CONVEX_HULL, ELMP, LISTS, LMP, RELAXATION, SUBGRADIENT_100, SUBGRADIENT_1000, ZONAL, PriceList
 from .prices import Prices
 from .program import MOST_WORK, Hull
@@ -59,6 +69,23 @@ class Settled:
     settlement: Settlement
     flows: List[UnitFlows]
 
+    @property
+    def prices(self) -> Prices:
+        return self.settlement.prices
+
+
+class Lists(Dict[str, Settled]):
+    """The lists of a study by key. A name is taken as `lists[name]` too; `in`, `get` and the items know keys alone."""
+
+    def __missing__(self, name: str) -> Settled:
+        for settled in self.values():
+            if settled.list.name == name:
+                return settled
+        raise KeyError(self.why_none(name))
+
+    def why_none(self, name: str) -> str:
+        return f"the study has no list {told_value(name)}: {hint_of(name, self)}"
+
 
 @dataclass
 class Paid:
@@ -77,13 +104,14 @@ class Study:
     schedule: Schedule
     wanted: Wanted
     provenance: Provenance
-    cost: int
-    best_cost: Optional[int] = None
-    lists: Dict[str, Settled] = field(default_factory=dict)
+    cost: Millionths
+    best_cost: Optional[Millionths] = None
+    lists: Lists = field(default_factory=Lists)
     zonal: Optional[Zonal] = None
     certificate: Optional[Certificate] = None
     notes: List[str] = field(default_factory=list)
-    is_short: bool = False  # (whether a schedule or a list that was to be made wasn't)
+    is_short: bool = False  # (whether a schedule or a list that was to be made wasn't, or its prices were cut)
+    is_far: bool = False  # (whether the search for convex hull prices missed its distance)
     missing: List[str] = field(default_factory=list)  # names of lists that an interrupt left out
     interrupted: Optional[Interrupted] = None
 
@@ -97,8 +125,12 @@ class Study:
 
     @property
     def main(self) -> Settled:
-        """Convex hull prices, or else the first list that there is."""
-        return self.in_order()[0]
+        """Convex hull prices, or a list whose dual value is greater by a cent or more; without them the first list that there is."""
+        first = self.in_order()[0]
+        if first.list.key != CONVEX_HULL.key:
+            return first
+        best = max(self.in_order(), key=lambda it: it.settlement.best.value)
+        return best if best.settlement.best.value - first.settlement.best.value >= CENT else first
 
     @property
     def unfinished(self) -> str:
@@ -107,17 +139,24 @@ class Study:
 
     def parts(self, key: str) -> GapParts:
         """The gap's parts at a list, by its key or its name. Raises `HullError` where there is none."""
-        keys = {settled.list.name: known for known, settled in self.lists.items()}
-        if keys.get(key, key) not in self.lists:
-            raise HullError(f"the study has no list {told_value(key)}: {hint_of(key, self.lists)}")
-        value = self.lists[keys.get(key, key)].settlement.best.value
+        try:
+            value = self.lists[key].settlement.best.value
+        except KeyError:
+            raise HullError(self.lists.why_none(key)) from None
         return gap_parts(self.cost, value, self.certificate.bound if self.certificate else None, self.best_cost)
 
     def sentence(self, where: str) -> str:
-        """The gap's parts at convex hull prices, or at those of the first list."""
+        """The gap's parts at convex hull prices, or at those of the list that stands for them."""
         price_list = self.main.list
-        name = "convex hull prices" if price_list is CONVEX_HULL else f"the prices of the list {price_list.name}"
-        return self.parts(price_list.key).sentence(f"{where} {name}")
+        name = "convex hull prices" if self.is_best_convex else f"the prices of the list {price_list.name}"
+        if self.is_far and price_list.key == CONVEX_HULL.key:
+            name = "the prices that hull convex came to"
+        return self.parts(price_list.key).sentence(f"{where} {name}", not self.is_far)
+
+    @property
+    def is_best_convex(self) -> bool:
+        """Whether convex hull prices are there, as near as was asked, and no list here has better ones."""
+        return not self.is_far and self.main.list.key == CONVEX_HULL.key
 
     def in_order(self) -> List[Settled]:
         """The lists as tables and pictures have them; those of files come last."""
@@ -138,6 +177,10 @@ class Study:
         return found + ([Paid(ZONAL, self.zonal.units, self.zonal.flows)] if self.zonal else [])
 
 
+CENT, MILLION = 10_000, 10**6  # millionths, as which money is told
+FAR = replace(
+    CONVEX_HULL, about="prices of hull convex, whose search missed its distance; a certificate says how near they are"
+)
 Step = Tuple[PriceList, Callable[[], None]]
 
 
@@ -153,7 +196,10 @@ class Maker:
         return self.hull.settle(self.case_file, self.schedule_file, prices)
 
     def add(self, price_list: PriceList, prices: Prices) -> None:
-        """Settles at a list of prices, and writes both."""
+        """Settles at a list of prices, and writes both; a list whose prices were cut is told."""
+        if prices.cut:
+            price_list = replace(price_list, about=f"{price_list.about}; {prices.told_cut}")
+            self.say_short(f"{price_list.name}: {prices.told_cuts}.")
         settlement = self.settle(prices)
         settlement.name = price_list.name
         text = self.hull.last_text
@@ -207,7 +253,24 @@ class Maker:
         names = ("convex.txt", "mixture.json", "certificate.txt")
         self.write(dict(zip(names, (text, found.mixture.text(), self.hull.last_text))))
         self.study.certificate = certificate
-        self.add(CONVEX_HULL, found.prices)
+        self.study.is_far = is_far(found, wanted.within is not None)
+        self.add(FAR if self.study.is_far else CONVEX_HULL, found.prices)
+        if self.study.is_far:
+            self.note(
+                f"The search for convex hull prices missed its distance of {money(found.within)}: it came within {money(found.distance)} "
+                f"of the greatest dual value, in {counted(found.made, 'round')}."
+            )
+
+    def note(self, told: str) -> None:
+        self.study.notes.append(told)
+        self.tell(told)
+
+    def note_better_list(self) -> None:
+        """Says so where convex hull prices aren't the best of the lists, whose search came only so near."""
+        best, convex = self.study.main, self.study.lists.get(CONVEX_HULL.key)
+        if convex and best is not convex:
+            more = Millionths(best.settlement.best.value - convex.settlement.best.value)
+            self.note(f"The list {best.list.name} has a dual value {money(more)} above that of {convex.list.name}.")
 
     def steps(self) -> Iterator[Step]:
         """Each list, and what makes it; those of a solver first, and what may take longest last."""
@@ -230,6 +293,9 @@ class Maker:
         steps = list(self.steps())
         skipped = [it.name for it, _ in steps if it.key in skip]
         left = [it for it in steps if it[0].key not in skip]
+        unknown = study.clock.why_unknown(study.case.periods)
+        if unknown:
+            self.note(unknown)
         if skipped:
             study.notes.append(f"Left out by --skip: {', '.join(skipped)}.")
         try:
@@ -238,6 +304,8 @@ class Maker:
                 self.make_list(*left[0])
                 del left[0]
             raise_swallowed()
+            if study.lists:
+                self.note_better_list()
             if until_written:
                 until_written.enter_context(heard_later())
         except KeyboardInterrupt as why:
@@ -252,10 +320,18 @@ class Maker:
             with step(price_list.name):
                 make()
         except OverTime as why:
-            told = f"{price_list.name} is left out: {why}. Give --seconds more, or --skip {price_list.key}."
-            self.tell(told)
-            self.study.notes.append(told)
-            self.study.is_short = True
+            self.say_short(f"{price_list.name} is left out: {why}. Give --seconds more, or --skip {price_list.key}.")
+
+    def say_short(self, told: str) -> None:
+        """Tells, and has the page say, what a list isn't that it was to be."""
+        self.tell(told)
+        self.study.notes.append(told)
+        self.study.is_short = True
+
+
+def is_far(found: Convex, is_asked: bool) -> bool:
+    """Whether the search missed its distance. One that nobody asked for is met at a millionth of the dual value too, where the search ends."""
+    return not found.is_near and (is_asked or found.distance * MILLION > abs(found.value))
 
 
 def files_of_list(key: str) -> List[str]:

@@ -92,9 +92,13 @@ def opened_lock(place: str) -> Optional[int]:
         if os.path.lexists(place):
             return None
         raise
-    if not stat.S_ISREG(os.fstat(handle).st_mode):
+    found = os.fstat(handle)
+    if not stat.S_ISREG(found.st_mode):
         os.close(handle)
         raise HullError(f"{place}: this is no file")
+    if found.st_size:  # (a lock of ours is empty, and goes in the end)
+        os.close(handle)
+        raise NotOurs(f"{place}: no run of hull made this, so it stays: move it away, or name another folder")
     return handle
 
 
@@ -170,8 +174,8 @@ def text_of_room(place: str) -> bytes:
 
 
 def is_room(place: str) -> bool:
-    """Whether a run made the folder: nothing is there yet, or it says so."""
-    return not os.listdir(place) or bytes_in(place, OWN, 1000) == text_of_room(place)
+    """Whether a run made the folder, which says so itself; an empty one may be anybody's."""
+    return bytes_in(place, OWN, 1000) == text_of_room(place)
 
 
 def write_through(folder: str) -> None:

@@ -5,7 +5,8 @@ from typing import Any, Dict, Iterable, List, Sequence, Tuple
 
 from .cash_flows import KINDS, total, uplift_by_period
 from .charts import steps_chart
-from .numbers import money
+from .errors import one_line
+from .numbers import Millionths, money
 from .pages import DRAWING, MOST_NUMBERS, SORT, document, head_row, number_cell, shown
 from .settlement_rules import RULES, bill, forced_losses, paid, paid_by_kind
 from .studies import Settled, Study
@@ -21,6 +22,11 @@ UNIT_KEYS = (
 )
 HIDES = "Where lists agree, the last one hides the others."
 Row = Tuple[str, Sequence[Tuple[str, int]], str]
+
+
+def plain(text: str) -> str:
+    """A text as HTML: what can't be printed, and what turns the direction, as ?."""
+    return html.escape(one_line(text))
 
 
 def keys_of(keys: Iterable[str]) -> str:
@@ -40,7 +46,7 @@ def bars(rows: Sequence[Row], keys: List[Tuple[str, str]]) -> str:
             if number > 0
         )
         found.append(
-            f'<div class="list"><span>{html.escape(name)}</span><div class="stack">{blocks}</div><span class="sum">{end}</span></div>'
+            f'<div class="list"><span>{plain(name)}</span><div class="stack">{blocks}</div><span class="sum">{end}</span></div>'
         )
     return "".join(found)
 
@@ -61,12 +67,15 @@ def row_of(name: str, numbers: Iterable[int], more: str = "", attributes: str = 
 def headline(study: Study) -> str:
     """The gap's parts at convex hull prices, or else at those of the first list, and what the certificate says."""
     certificate = study.certificate
-    found = f'<p class="said">{html.escape(study.sentence("At"))}</p>'
+    found = f'<p class="said">{plain(study.sentence("At"))}</p>'
     if certificate is None:
         return found
+    best = study.main
+    name = "The convex hull prices" if study.is_best_convex else f"The prices of the list {plain(best.list.name)}"
+    distance = Millionths(certificate.bound - best.settlement.best.value)
     return (
-        f"{found}<p>hull certify proves that no prices have a dual value above {money(certificate.bound)}. The convex hull prices come within "
-        f"{money(certificate.distance)} of it.</p>"
+        f"{found}<p>hull certify proves that no whole prices within the limits of prices have a dual value above {money(certificate.bound)}. {name} come within "
+        f"{money(distance)} of it.</p>"
     )
 
 
@@ -81,16 +90,16 @@ def notes_of(study: Study) -> str:
     for source in (study.provenance.schedule, study.provenance.best_schedule):
         if source and not source.is_near:
             found.insert(0, f"A search for a schedule missed its gap: {source.made}.")
-    return "".join(f'<p class="note">{html.escape(it)}</p>' for it in found)
+    return "".join(f'<p class="note">{plain(it)}</p>' for it in found)
 
 
 def what_saves(known: bool, bounded: bool) -> str:
     """What would save each part of the gap, in the order of the table."""
     if not known:
-        first = "A better schedule may save some of the first part, and no prices do; better prices save at most the second."
+        first = "A better schedule may save some of the first part, and no whole prices within the limits of prices do; better prices save at most the second."
         return first if bounded else "A better schedule or better prices may save some of it."
     rest = (
-        "no prices save the second, and better prices save at most the third"
+        "no whole prices within the limits of prices save the second, and better prices save at most the third"
         if bounded
         else "better prices save at most the second"
     )
@@ -107,8 +116,8 @@ def gap_part(study: Study) -> str:
         left = ([("blue", parts.duality or 0)] if bounded else []) + [("orange", parts.prices)]
         rows.append((settled.list.name, left, money(parts.without_schedule)))
         sums = [*([parts.schedule or 0] if known else []), *(number for _, number in left), parts.gap]
-        lines.append(row_of(html.escape(settled.list.name), sums))
-    rest = "duality gap" if known else "schedule and duality gap"
+        lines.append(row_of(plain(settled.list.name), sums))
+    rest = ("duality gap" if known else "schedule and duality gap") + ", at least" * study.is_far
     keys = ([("blue", rest)] if bounded else []) + [("orange", "prices, at most")]
     heads = ["*Prices", *(["Schedule"] if known else []), *(told.capitalize() for _, told in keys), "Gap"]
     title = "Gap at the best schedule known" if known else "Gap by price list"
@@ -127,7 +136,7 @@ def rule_part(study: Study, rule: str) -> str:
         sums = paid_by_kind(paid.units, rule)
         whole = sum(sums.values())
         rows.append((paid.list.name, [(KIND_COLOURS[kind], sums[kind]) for kind in has], money(whole)))
-        lines.append(row_of(html.escape(paid.list.name), [whole, *(sums[kind] for kind in has)]))
+        lines.append(row_of(plain(paid.list.name), [whole, *(sums[kind] for kind in has)]))
     keys = [(KIND_COLOURS[kind], KINDS[kind].lower()) for kind in has]
     heads = ["*Prices", "All", *(KINDS[kind] for kind in has)]
     return f"<h2>Payments: {RULES[rule]}</h2>{of_the_schedule(study, rule)}{bars(rows, keys)}{table(heads, lines)}"
@@ -152,7 +161,7 @@ def consumers_part(study: Study) -> str:
         for settled in study.in_order():
             due = bill(study.case, settled.settlement, settled.flows, rule)
             numbers = (due.total, due.energy, due.reserve, due.payments, due.surplus, due.left)
-            rows.append(row_of(html.escape(settled.list.name), numbers))
+            rows.append(row_of(plain(settled.list.name), numbers))
         found.append(f"<h3>{RULES[rule].capitalize()}</h3>{table(heads, rows)}")
     return (
         "<h2>What consumers pay</h2><p>Demand at the energy prices, required reserve at the reserve prices, and uplift: payments to units and buyers, "
@@ -173,7 +182,7 @@ def forced_part(study: Study) -> str:
     if not forced:
         return ""
     rows = [row_of(shown(name), sums, f'<td class="text">{reasons[name]}</td>') for name, sums in forced.items()]
-    heads = ("*Name", "*Forced by", *(html.escape(it.list.name) for it in lists))
+    heads = ("*Name", "*Forced by", *(plain(it.list.name) for it in lists))
     return (
         "<h2>Forced losses</h2><p>These units lose at the prices whatever they do within their rules. No payment above covers the forced loss. Many markets make a "
         "unit whole for it where a reliability commitment is the reason, and not where it schedules itself.</p>"
@@ -192,9 +201,9 @@ def price_chart(study: Study, title: str, series: Sequence[Tuple[str, Sequence[i
         (style_of(place), [float(clock.price(number)) for number in numbers])
         for place, (_, numbers) in zip(places, series)
     ]
-    keys = keys_of(f'<i class="{style}"></i>{html.escape(name)}' for (style, _), (name, _) in zip(rows, series))
+    keys = keys_of(f'<i class="{style}"></i>{plain(name)}' for (style, _), (name, _) in zip(rows, series))
     told = f"{title}, {study.wanted.currency or 'currency'} {clock.price_unit}"
-    return f"<h2>{html.escape(told)}</h2><p>{keys}{HIDES * (len(rows) > 1)}</p>{steps_chart(told, rows, periods, clock.axis, clock.labels(periods))}"
+    return f"<h2>{plain(told)}</h2><p>{keys}{HIDES * (len(rows) > 1)}</p>{steps_chart(told, rows, periods, clock.axis(periods), clock.labels(periods))}"
 
 
 def price_parts(study: Study) -> str:
@@ -215,7 +224,7 @@ def price_parts(study: Study) -> str:
 
 
 def folded(name: str, body: str, is_open: bool = False) -> str:
-    return f"<details{' open' * is_open}><summary>{html.escape(name)}</summary>{body}</details>"
+    return f"<details{' open' * is_open}><summary>{plain(name)}</summary>{body}</details>"
 
 
 def hours_of(study: Study, settled: Settled) -> str:
@@ -256,11 +265,11 @@ def units_part(study: Study) -> str:
         rows.append(
             f'<tr data-unit="{i}" tabindex="0">{kind}<td class="text name">{shown(units[i].name)}</td>{cells}</tr>'
         )
-    names = [f"{html.escape(it.list.name)}<br>{rule}" for it in lists for rule in rules]
+    names = [f"{plain(it.list.name)}<br>{rule}" for it in lists for rule in rules]
     head = head_row(["*Kind", "*Name", *names]).replace(
         'class=text><button type="button">Name', 'class="text name"><button type="button">Name'
     )
-    options = "".join(f'<option value="{it.list.key}">{html.escape(it.list.name)}</option>' for it in lists)
+    options = "".join(f'<option value="{it.list.key}">{plain(it.list.name)}</option>' for it in lists)
     return (
         "<h2>Payments by unit</h2><p>What each unit and buyer is paid beside energy and reserve, for all periods together. A click on a head sorts, a click on a row shows that unit's best response "
         f'at the prices of <select id="chosen" aria-label="Prices">{options}</select></p>'
@@ -331,14 +340,12 @@ def files_part(files: Dict[str, str]) -> str:
     for name, text in files.items():
         form = "text/csv" if name.endswith(".csv") else "application/json" if name.endswith(".json") else "text/plain"
         data = base64.b64encode(text.encode()).decode()
-        links.append(f'<a download="{html.escape(name)}" href="data:{form};base64,{data}">{html.escape(name)}</a>')
+        links.append(f'<a download="{plain(name)}" href="data:{form};base64,{data}">{plain(name)}</a>')
     return f'<h2>Files</h2><p class="files">{"".join(links)}</p>'
 
 
 def origin_part(study: Study) -> str:
-    rows = "".join(
-        f"<dt>{html.escape(name)}</dt><dd>{html.escape(text)}</dd>" for name, text in study.provenance.lines()
-    )
+    rows = "".join(f"<dt>{plain(name)}</dt><dd>{plain(text)}</dd>" for name, text in study.provenance.lines())
     return f'<h2>How this page was made</h2><dl class="origin">{rows}</dl>'
 
 
@@ -346,9 +353,7 @@ def study_page(study: Study, files: Dict[str, str]) -> str:
     """The page; `files` are texts that it offers for download, by name."""
     title = study.wanted.title or "Price lists, one schedule"
     money_told = (
-        f"Money is in {html.escape(study.wanted.currency)}."
-        if study.wanted.currency
-        else "Money is in the case's currency."
+        f"Money is in {plain(study.wanted.currency)}." if study.wanted.currency else "Money is in the case's currency."
     )
     parts = [
         gap_part(study),
@@ -365,8 +370,8 @@ def study_page(study: Study, files: Dict[str, str]) -> str:
         origin_part(study),
     ]
     certified = ", the bound on the dual value by hull certify" if study.certificate else ""
-    about = "".join(f"<dt>{html.escape(it.list.name)}</dt><dd>{html.escape(it.list.about)}</dd>" for it in study.paid())
-    body = f"""<style>{STYLE}</style><h1>{html.escape(title)}</h1>
+    about = "".join(f"<dt>{plain(it.list.name)}</dt><dd>{plain(it.list.about)}</dd>" for it in study.paid())
+    body = f"""<style>{STYLE}</style><h1>{plain(title)}</h1>
 <p>{shown(study.provenance.case_name)}: {len(study.case.units)} units and buyers over {study.case.periods} period{"s" * (study.case.periods > 1)}, a schedule of cost {money(study.cost)}. {money_told}
 Prices are {study.clock.price_unit}. Each settlement is by hull settle{certified}.</p>
 {headline(study)}{notes_of(study)}{chr(10).join(parts)}

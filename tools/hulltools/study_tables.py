@@ -2,6 +2,7 @@
 from typing import TYPE_CHECKING, Dict, List, Optional, Tuple
 
 from .cash_flows import KINDS, UnitFlows, total, uplift_by_period
+from .price_lists import PriceList
 from .settlement_rules import RULES, bill, forced_loss, paid_by_kind
 from .tables import Table, frames_of
 from .zones import Zonal
@@ -26,6 +27,16 @@ def price_heads(study: "Study", *names: str) -> List[str]:
     return [f"{name}_{money_name(study)}_{study.clock.price_suffix}" for name in names]
 
 
+def heads_of_list(with_keys: bool) -> List[str]:
+    """The heads above what `names_of` gives."""
+    return ["list", "key"] if with_keys else ["list"]
+
+
+def names_of(price_list: PriceList, with_keys: bool) -> Tuple[str, ...]:
+    """The name of a list, and in a frame its key too."""
+    return (price_list.name, price_list.key) if with_keys else (price_list.name,)
+
+
 def sums_of(study: "Study", settled: "Settled") -> List[Optional[int]]:
     """The sums of one list, in the order of the heads."""
     settlement, parts = settled.settlement, study.parts(settled.list.key)
@@ -42,14 +53,14 @@ def lists_table(study: "Study", with_keys: bool = False) -> Table:
     """A row for each list, exact but for the means, with what the study was made from in each row; of a frame, with its key too."""
     origin = study.provenance.columns()
     prices = price_heads(study, "energy_price_mean", "energy_price_most", "reserve_price_mean")
-    heads = ["list", *(["key"] if with_keys else []), "about", *(f"{name}:money" for name in SUMS), *prices, *origin]
+    heads = [*heads_of_list(with_keys), "about", *(f"{name}:money" for name in SUMS), *prices, *origin]
     table = Table(heads, True, money_name(study))
     for settled in study.in_order():
         row = settled.settlement.best
         price = study.clock.price_number
         means = [price(round(sum(numbers) / len(numbers))) for numbers in (row.energy, row.reserve)]
         cells = (means[0], price(max(row.energy)), means[1])
-        names = (settled.list.name, settled.list.key) if with_keys else (settled.list.name,)
+        names = names_of(settled.list, with_keys)
         table.add(*names, settled.list.about, *sums_of(study, settled), *cells, *origin.values())
     return table
 
@@ -66,12 +77,13 @@ def unit_sums(unit: UnitFlows) -> Tuple[int, ...]:
     return (*sums, owed.make_whole, owed.lost_opportunity, forced_loss(owed))
 
 
-def units_table(study: "Study") -> Table:
-    """A row for each list and unit."""
-    table = Table(["list", "kind", "unit", *(f"{name}:money" for name in UNIT_SUMS)], True, money_name(study))
+def units_table(study: "Study", with_keys: bool = False) -> Table:
+    """A row for each list and unit; of a frame, with the list's key too."""
+    heads = [*heads_of_list(with_keys), "kind", "unit", *(f"{name}:money" for name in UNIT_SUMS)]
+    table = Table(heads, True, money_name(study))
     for paid in study.paid():
         for unit in paid.flows:
-            table.add(paid.list.name, unit.owed.kind, unit.owed.name, *unit_sums(unit))
+            table.add(*names_of(paid.list, with_keys), unit.owed.kind, unit.owed.name, *unit_sums(unit))
     return table
 
 
@@ -84,11 +96,12 @@ def zonal_table(zonal: Zonal, currency: str = "") -> Table:
     return table
 
 
-def hours_table(study: "Study") -> Table:
-    """Prices, demand, the responses' supply and uplift by period at each list."""
+def hours_table(study: "Study", with_keys: bool = False) -> Table:
+    """Prices, demand, the responses' supply and uplift by period at each list; of a frame, with the list's key too."""
     case, clock = study.case, study.clock
     powers = ("demand:kw", "requirement:kw", "response_supply:kw", "response_reserve:kw")
-    heads = ["list", "period", "begins", *price_heads(study, "energy_price", "reserve_price"), *powers, "uplift:money"]
+    prices_of = price_heads(study, "energy_price", "reserve_price")
+    heads = [*heads_of_list(with_keys), "period", "begins", *prices_of, *powers, "uplift:money"]
     table = Table(heads, True, money_name(study))
     for settled in study.in_order():
         row = settled.settlement.best
@@ -96,7 +109,8 @@ def hours_table(study: "Study") -> Table:
         for t, begins in enumerate(clock.times(case.periods)):
             prices = (clock.price_number(row.energy[t]), clock.price_number(row.reserve[t]))
             lists = (case.demand[t], case.reserves[t], row.supplied[t], row.reserved[t])
-            table.add(settled.list.name, t + 1, begins or None, *prices, *lists, uplift[t])
+            names = names_of(settled.list, with_keys)
+            table.add(*names, t + 1, begins or None, *prices, *lists, uplift[t])
     return table
 
 
@@ -107,6 +121,8 @@ def tables_of_study(study: "Study") -> Dict[str, Table]:
 
 def frames_of_study(study: "Study") -> Dict[str, "DataFrame"]:
     """The tables as data frames of pandas."""
-    tables = {"lists": lists_table(study, with_keys=True), "units": units_table(study), "hours": hours_table(study)}
+    makers = {"lists": lists_table, "units": units_table, "hours": hours_table}
+    tables = {name: table(study, with_keys=True) for name, table in makers.items()}
     clock = study.clock
-    return frames_of(tables, clock.start, clock.hours or 1)
+    start = None if clock.why_unknown(study.case.periods) else clock.start
+    return frames_of(tables, start, clock.hours or 1)

@@ -11,7 +11,7 @@ from typing import Callable, Dict, List, Tuple
 
 from .cases import Case
 from .charts import ticks
-from .errors import HullError
+from .errors import HullError, one_line
 from .tables import as_it_was, told_apart
 
 COLOURS = ("#1763c7", "#5b6570", "#b85c00", "#7a3fb0", "#b3261e", "#2c7a4b")
@@ -48,8 +48,8 @@ class Scenario:
 
 
 def factor_of(percent: str) -> Fraction:
-    """+1% as 1.01."""
-    found = re.fullmatch(r"([+-]?\d+(?:\.\d+)?)%?", percent.strip())
+    """+1% as 1.01. Without its mark 0.05 might be 5 per cent, and is refused."""
+    found = re.fullmatch(r"([+-]?\d+(?:\.\d+)?)%", percent.strip())
     if not found:
         raise HullError(f"{percent!r} is no change in per cent, as +1% or -10%")
     return 1 + Fraction(found.group(1)) / 100
@@ -59,8 +59,15 @@ def percents(text: str) -> List[str]:
     return [it.strip() for it in text.split(",")]
 
 
-def without_unit(name: str) -> Callable[[Case], Case]:
-    return lambda case: case.without(name)
+def without_unit(text: str) -> Callable[[Case], Case]:
+    """A case without a unit or buyer, by its name, or by kind and name as thermal:G2 where the case has one of these."""
+    kind, _, name = text.partition(":")
+
+    def change(case: Case) -> Case:
+        is_kind = any((known, unit.name) == (kind, name) for known, unit in case.units)
+        return case.without(name, kind=kind) if is_kind else case.without(text)
+
+    return change
 
 
 def scenarios_of(demand: List[str], wind: List[str], offers: List[str], outages: List[str]) -> List[Scenario]:
@@ -84,7 +91,7 @@ def joined(tables: Dict[str, str]) -> str:
     into = io.StringIO()
     writer, head = csv.writer(into), None
     for name, text in tables.items():
-        rows = list(csv.reader(io.StringIO(text)))
+        rows = list(csv.reader(io.StringIO(text), strict=True))
         if head is None:
             head = rows[0]
             writer.writerow(["scenario", *head])
@@ -97,14 +104,14 @@ def joined(tables: Dict[str, str]) -> str:
 def uplifts(text: str) -> List[Tuple[str, str, float]]:
     """Scenario, list, and the gap without the schedule's part."""
     found = []
-    for row in csv.DictReader(io.StringIO(text)):
+    for row in csv.DictReader(io.StringIO(text), strict=True):
         parts = [it for key, it in row.items() if key.startswith(("gap_duality", "gap_prices"))]
         found.append((as_it_was(row["scenario"]), row["list"], sum(float(it or 0) for it in parts)))
     return found
 
 
 def bar_of(x: Callable[[float], float], y: float, place: int, name: str, number: float) -> str:
-    told = html.escape(f"{name}: {number:,.2f}")
+    told = html.escape(one_line(f"{name}: {number:,.2f}"))
     colour = COLOURS[place % len(COLOURS)]
     return (
         f'<rect x="{LEFT}" y="{y}" width="{max(x(number) - LEFT, 0.5):.1f}" height="{BAR - 2}" fill="{colour}"><title>{told}</title></rect>'
@@ -125,7 +132,7 @@ def picture_of_sweep(text: str) -> str:
     for scenario in scenarios:
         own = [(name, number) for it, name, number in rows if it == scenario]
         parts.append(
-            f'<text x="{LEFT - 8}" y="{y + len(own) * BAR / 2 + 4}" text-anchor="end">{html.escape(scenario)}</text>'
+            f'<text x="{LEFT - 8}" y="{y + len(own) * BAR / 2 + 4}" text-anchor="end">{html.escape(one_line(scenario))}</text>'
         )
         for name, number in own:
             parts.append(bar_of(x, y, lists.index(name), name, number))
@@ -138,7 +145,7 @@ def picture_of_sweep(text: str) -> str:
     keys, place = [], 8.0
     for i, name in enumerate(lists):
         keys.append(f'<rect x="{place}" y="8" width="10" height="10" fill="{COLOURS[i % len(COLOURS)]}"/>')
-        keys.append(f'<text x="{place + 14}" y="17">{html.escape(name)}</text>')
+        keys.append(f'<text x="{place + 14}" y="17">{html.escape(one_line(name))}</text>')
         place += 30 + 7 * len(name)
     style = "text { font: 12px sans-serif; fill: #1b1f24; } .small { font-size: 10px; }"
     title = "Gap at the best schedule known, by scenario and price list"

@@ -8,17 +8,20 @@ from .cash_flows import UnitFlows, unit_flows
 from .costs import Costs
 from .errors import HullError, Name, one_line
 from .json_texts import read_json
+from .options import FieldsAlone, refuse_unknown_keys
 from .outputs import Owed, Settlement
-from .prices import Prices, prices_of
+from .prices import Prices, prices_within
 from .progress import step
 from .schedules import Schedule
 
 if TYPE_CHECKING:
     from pandas import DataFrame
 
+ZONES_KEYS, PRICES_KEYS = ["zones", "units", "default"], ["energy", "reserve"]
+
 
 @dataclass
-class Zones:
+class Zones(FieldsAlone):
     """Price lists by zone, and the zone of each unit; `default` is the zone of those that have none."""
 
     prices: Dict[str, Prices]
@@ -41,11 +44,15 @@ def zones_of(name: Name, value: Any, case: Case) -> Zones:
     """The zones of a JSON value, which has a zone for each unit of the case."""
     if not isinstance(value, dict) or not isinstance(value.get("zones"), dict) or not value["zones"]:
         raise HullError(f"{name}: no zones: it isn't an object with the object `zones`, of prices by zone")
+    refuse_unknown_keys(f"{name}", value, ZONES_KEYS)
     units, default = value.get("units", {}), value.get("default")
     if not isinstance(units, dict):
         raise HullError(f"{name}: `units` isn't an object of zones by unit")
+    for zone, given in value["zones"].items():
+        refuse_unknown_keys(f"{name}: zones: {one_line(zone)}", given, PRICES_KEYS)
     prices = {
-        zone: prices_of(f"{name}, zone {one_line(zone)}", given, case.periods) for zone, given in value["zones"].items()
+        zone: prices_within(f"{name}, zone {one_line(zone)}", given, case.periods)
+        for zone, given in value["zones"].items()
     }
     known = [unit.name for _, unit in case.units]
     for unit, zone in units.items():

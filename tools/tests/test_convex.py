@@ -138,6 +138,17 @@ class ByHand(Room):
         self.assertEqual(self.read("prices.json"), '{"energy": [30], "reserve": [0]}\n')
         self.assertIn("--within 250000 --rounds 7", self.read("hull.words"))
 
+    def test_a_case_that_is_changed_meanwhile_is_refused(self):
+        with open(FILES[0], encoding="utf-8") as file:
+            case = self.write("case.json", file.read())
+        program = self.program()
+        changing = self.read("hull").replace("\ncat ", f"\necho >>{case}\ncat ")
+        self.write("hull", changing)
+        words = [case, FILES[1], f"{self.room}/prices.json", f"{self.room}/mixture.json", "--hull", program]
+        status, _, said = run("convex_prices.py", *words, "--best-schedule", f"{FOLDER}/best.schedule.json")
+        due = f"convex_prices.py: {case} was changed meanwhile, so the gap would be of more than one file: nothing is written\n"
+        self.assertEqual((status, said, os.path.exists(f"{self.room}/prices.json")), (1, due, False))
+
     def test_the_call(self):
         found = hulltools.convex_prices(*FILES, hull=self.program())
         self.assertEqual((found.prices.energy, found.distance, found.mixture.weight), ([30_000], 0, 2))

@@ -10,6 +10,7 @@ import signal
 import subprocess
 import sys
 import tempfile
+import threading
 import time
 import unittest
 from typing import Callable, Iterator, List, Tuple
@@ -18,9 +19,9 @@ from unittest import mock
 from tool import EXAMPLES, PROGRAM, ROOT, python_with
 from worked_apart import killed, refuse, slow, steps
 
-from hulltools import apart, errors, progress
+from hulltools import apart, errors, linear, progress
 from hulltools.errors import HullError
-from hulltools.study_folder import HEAD, MARK, ROOM, SUMS, StudyFolder
+from hulltools.study_folder import HEAD, MARK, OWN, ROOM, SUMS, StudyFolder, text_of_room
 from hulltools.telling import CLEAR, Teller
 
 DEAR = f"{EXAMPLES}/dear_schedule"
@@ -92,6 +93,21 @@ class Told(Room):
         said = self.lines(False, [(0.0, "LMP"), (5.0, "hull settle")], 8.0)
         self.assertEqual(said.splitlines(), ["tool.py: LMP: 2 s", "tool.py: LMP: hull settle: 2 s"])
 
+    def test_without_room_for_a_thread_nothing_is_told(self) -> None:
+        why = RuntimeError("can't start new thread")
+        with mock.patch.dict(os.environ, HULL_PROGRESS="1"), mock.patch.object(
+            threading.Thread, "start", side_effect=why
+        ):
+            with progress.told_by(Teller("tool.py")), progress.step("waiting"):
+                self.assertIsNone(progress.NOW.progress)
+
+    def test_without_room_for_scipy_that_is_told(self) -> None:
+        for why in (MemoryError(), ImportError("x.so: failed to map segment from shared object")):
+            with mock.patch.multiple(linear, milp=None, WHY_MISSING=why):
+                self.assertRaisesRegex(HullError, "no memory to load SciPy", linear.need_scipy)
+        with mock.patch.multiple(linear, milp=None, WHY_MISSING=ImportError("No module named 'scipy'")):
+            self.assertRaisesRegex(HullError, "this needs SciPy", linear.need_scipy)
+
     def test_a_terminal_has_one_line_that_is_written_anew(self) -> None:
         said = self.lines(True, [(0.0, "solving")], 4.3)
         self.assertEqual([it for it in said.split(CLEAR) if it], [f"tool.py: solving: {it} s" for it in (2, 3, 4)])
@@ -112,6 +128,17 @@ class Apart(unittest.TestCase):
 
     def test_what_it_finds_comes_back(self) -> None:
         self.assertEqual(apart.run_apart(slow, (0.0,), "waiting", 60), "done")
+
+    def test_a_relative_place_of_modules_is_that_of_the_beginning(self) -> None:
+        """A script that adds `tools` to sys.path, and then goes to another folder."""
+        script = (
+            "import os, sys; sys.path.insert(0, 'tools'); from hulltools import apart; os.chdir('/')\n"
+            "print(apart.run_apart(os.path.basename, ('a/b',), 'waiting', 60))"
+        )
+        ran = subprocess.run(
+            [sys.executable, "-B", "-c", script], cwd=ROOT, capture_output=True, text=True, timeout=300
+        )
+        self.assertEqual((ran.returncode, ran.stdout), (0, "b\n"), ran.stderr)
 
     def test_a_limit_holds(self) -> None:
         began = time.monotonic()
@@ -147,6 +174,17 @@ class Interrupts(unittest.TestCase):
             os.kill(os.getpid(), signal.SIGTERM)
             done.append(signal.getsignal(signal.SIGTERM))
         self.assertEqual((done, caught.exception.status), ([signal.SIG_DFL], 143))
+
+    def test_a_terminal_that_is_closed_is_told_of_twice(self) -> None:
+        with self.assertRaises(errors.Interrupted) as caught, errors.heard_later():
+            for _ in range(2):
+                os.kill(os.getpid(), signal.SIGHUP)
+        self.assertEqual(caught.exception.status, 129)
+
+    def test_nohup_keeps_its_signal_from_a_tool(self) -> None:
+        signal.signal(signal.SIGHUP, signal.SIG_IGN)
+        errors.hear_interrupts()
+        self.assertIs(signal.getsignal(signal.SIGHUP), signal.SIG_IGN)
 
     def test_without_one_all_is_as_before(self) -> None:
         with errors.heard_later():
@@ -265,14 +303,17 @@ class Folder(Room):
         self.assertEqual(read(f"{self.folder}/{MARK}"), "Interrupted.\n")
 
     def test_rooms_of_killed_runs_go_and_those_of_others_stay(self) -> None:
-        os.makedirs(f"{self.folder}/{ROOM}killed")
+        for name in ("killed", "mine"):
+            os.makedirs(f"{self.folder}/{ROOM}{name}")
+        write(f"{self.folder}/{ROOM}killed/{OWN}", text_of_room(f"{self.folder}/{ROOM}killed").decode())
         with StudyFolder(self.folder) as one, StudyFolder(self.folder) as two:
-            self.assertEqual(self.names(), sorted(map(os.path.basename, (one.room, two.room))))
+            rooms = map(os.path.basename, (one.room, two.room))
+            self.assertEqual(self.names(), sorted([f"{ROOM}mine", *rooms]))
             write(f"{one.room}/only one", "1")
             write(f"{two.room}/only two", "2")
             one.place()
             two.place()
-        self.assertEqual(self.names(), [SUMS, "only two"])
+        self.assertEqual(self.names(), [f"{ROOM}mine", SUMS, "only two"])
 
     def test_names_that_can_not_be_written_are_refused_first(self) -> None:
         with StudyFolder(self.folder) as folder:
@@ -332,7 +373,7 @@ class Studies(Room):
         return sorted(os.listdir(f"{self.room}/st"))
 
     def test_interrupts_leave_the_lists_that_are_there(self) -> None:
-        for number in (signal.SIGINT, signal.SIGTERM):
+        for number in errors.ENDS:
             with self.begun(*GIVEN, "--hull", self.program("convex")) as ran:
                 process = self.stuck()
                 ran.send_signal(number)

@@ -19,7 +19,7 @@ from tool import EXAMPLES, PROGRAM, python_with, run
 
 from hulltools import done_marks, errors, studies, study_folder
 from hulltools.commands import study as study_command
-from hulltools.errors import HullError, NotOurs
+from hulltools.errors import HullError
 from hulltools.study_folder import HEAD, LOCK, MARK, ROOM, SUMS, StudyFolder
 from hulltools.sweeping import joined, scenarios_of, uplifts
 
@@ -103,6 +103,18 @@ class Studies(InFolder):
         self.assertEqual(
             (read(f"{self.folder}/{ROOM}notes/a.txt"), read(f"{self.folder}/{ROOM}copy/b.txt")), ("mine",) * 2
         )
+
+    def test_an_empty_folder_of_somebody_stays(self) -> None:
+        os.makedirs(f"{self.folder}/{ROOM}mine")
+        self.study(table="1")
+        self.assertEqual(os.listdir(f"{self.folder}/{ROOM}mine"), [])
+
+    def test_a_lock_with_something_in_it_is_no_lock(self) -> None:
+        self.made(**{LOCK: "mine"})
+        self.refused(f"{LOCK}: no run of hull made this", lambda: self.study(table="1"))
+        write(f"{self.folder}/{LOCK}", "")  # (as a run that was killed leaves it)
+        self.study(table="1")
+        self.assertFalse(os.path.exists(f"{self.folder}/{LOCK}"))
 
     def test_a_room_of_a_killed_run_goes(self) -> None:
         with StudyFolder(self.folder) as folder:
@@ -318,6 +330,10 @@ class Sweeps(InFolder):
         os.symlink("../elsewhere/notes", f"{self.folder}/base/case.json")
         self.assertIn("base/case.json: no sweep.py here made this", self.sweep())
 
+    def test_a_change_has_its_mark(self) -> None:
+        for word, told in (("--demand=0.05", "0.05"), ("--wind=+1%,-10", "-10"), ("--offer=COAL=5", "5")):
+            self.assertIn(f"sweep.py: {told!r} is no change in per cent, as +1% or -10%", self.sweep(word))
+
     def test_its_own_case_stays(self) -> None:
         self.made(**{"demand_+10/case.json": read(CASE)})
         said = self.sweep("--demand=+10%", case=f"{self.folder}/demand_+10/case.json")
@@ -435,7 +451,9 @@ class Interrupts(unittest.TestCase):
         for number in errors.ENDS:
             errors.hear_interrupts()
             self.forked(number)
-            self.assertEqual({signal.getsignal(it) for it in errors.ENDS}, {signal.SIG_DFL})
+            later = {signal.SIGHUP: errors.pass_over} if number == signal.SIGHUP else {}
+            due = [later.get(it, signal.SIG_DFL) for it in errors.ENDS]
+            self.assertEqual([signal.getsignal(it) for it in errors.ENDS], due)
 
     def test_an_interrupt_of_a_notebook_is_heard(self) -> None:
         signal.signal(signal.SIGINT, signal.default_int_handler)

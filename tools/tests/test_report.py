@@ -10,7 +10,7 @@ import time
 import unittest
 from unittest import mock
 
-from tool import EXAMPLES, python_with, run
+from tool import EXAMPLES, PROGRAM, python_with, run
 
 from hulltools.errors import read_bytes
 
@@ -124,6 +124,13 @@ class Report(unittest.TestCase):
         head, *rows = self.table(name)
         return dict(zip(head, rows[place]))
 
+    def test_no_second_text_is_replaced(self):
+        text = self.write(SETTLED)
+        for verb in ("page", "plot", "prices", "mixture"):
+            status, _, said = run("report.py", verb, f"{EXAMPLES}/usual/price.output", text)
+            due = f"report.py: {text}: this is a text of hull, and it would be replaced: {verb} takes one text\n"
+            self.assertEqual((status, said, self.read("report.txt")), (1, due, SETTLED))
+
     def test_several_texts_in_the_currency_beside_case_and_schedule(self):
         texts = [self.write(SETTLED), f"{EXAMPLES}/usual/price.output"]
         files = ["--case", f"{EXAMPLES}/usual/case.json", "--schedule", f"{EXAMPLES}/usual/schedule.json"]
@@ -166,19 +173,79 @@ class Report(unittest.TestCase):
             ],
         )
 
-    def test_page_of_a_settlement_with_a_certificate(self):
-        settled = self.write(SETTLED)
+    def certified(self, text=CERTIFIED, *more):
+        """Makes the page of the settlement with a certificate; what was said, and the page."""
         with open(f"{self.room}/certificate", "w", encoding="utf-8") as file:
-            file.write(CERTIFIED)
-        ran = run("report.py", "page", settled, f"{self.room}/page.html", "--certificate", f"{self.room}/certificate")
-        self.assertEqual(ran, (0, "", ""))
-        self.assertIn("within 1.00 per MWh of these need less than 127.00", self.read("page.html"))
-        self.assertIn("within 37.00 of the greatest", self.read("page.html"))
-        with open(f"{self.room}/certificate", "w", encoding="utf-8") as file:
-            file.write(CERTIFIED.replace("value 686", "value 687"))
-        ran = run("report.py", "page", settled, f"{self.room}/page.html", "--certificate", f"{self.room}/certificate")
-        self.assertEqual(ran[0], 1)
-        self.assertIn("of other prices", ran[2])
+            file.write(text)
+        words = (self.write(SETTLED), f"{self.room}/page.html", "--certificate", f"{self.room}/certificate", *more)
+        status, _, said = run("report.py", "page", *words)
+        self.assertEqual((status, said.count("\n")), (1, 1) if said else (0, 0))
+        return said, "" if said else self.read("page.html")
+
+    def test_a_certificate_alone_is_not_taken_for_that_of_these_prices(self):
+        said, page = self.certified()
+        self.assertEqual(said, "")
+        self.assertIn("this page can't tell whether it is of these: --mixture can", page)
+        self.assertIn("and within 1.00 per MW and period of its prices need less than 127.00 for its schedule", page)
+        self.assertNotIn("these need 164.00", page)
+
+    def test_a_certificate_of_other_sums_is_refused(self):
+        other = CERTIFIED.replace("payments 164", "payments 163").replace("surplus 0", "surplus 1000000")
+        rows = [(CERTIFIED.replace("periods 1", "periods 2"), "its periods are 2, and the text's 1")]
+        rows += [(CERTIFIED.replace("units 2", "units 3"), "its units are 3, and the text's 2")]
+        rows += [(other, "its surplus is 1000000, and the text's 0")]
+        for text, why in rows:
+            said, _ = self.certified(text)
+            self.assertIn(f"of another case, of other prices or of another schedule: {why}", said)
+
+    def test_with_a_mixture_the_program_says_how_near_these_prices_are(self):
+        files = ["--case", f"{EXAMPLES}/usual/case.json", "--schedule", f"{EXAMPLES}/usual/schedule.json"]
+        files += ["--mixture", f"{EXAMPLES}/certified/mixture.json", "--hull", PROGRAM]
+        said, page = self.certified(CERTIFIED, *files)
+        self.assertEqual(said, "")
+        self.assertIn(
+            "of these need less than 127.00 of payments and surplus for this schedule; these need 164.00", page
+        )
+        self.assertIn("within 37.00 of the greatest there", page)
+        other = CERTIFIED.replace("bound 723", "bound 700").replace("distance 37", "distance 14").replace("127", "150")
+        self.assertIn("of other prices or of another mixture", self.certified(other, *files)[0])
+        words = ("page", self.write(SETTLED), f"{self.room}/page.html", "--mixture", f"{self.room}/certificate")
+        self.assertIn("--mixture goes with --case and --schedule", run("report.py", *words)[2])
+
+    def test_no_page_shows_another_schedule_beside_a_text(self):
+        schedule = f"{self.room}/schedule.json"
+        with open(f"{EXAMPLES}/usual/schedule.json", encoding="utf-8") as file:
+            value = json.load(file)
+        value["renewable"]["W1"] = [1999]
+        value["thermal"]["G1"]["power"] = [8001]
+        with open(schedule, "w", encoding="utf-8") as file:
+            json.dump(value, file)
+        files = ["--case", f"{EXAMPLES}/usual/case.json", "--schedule", schedule]
+        status, _, said = run("report.py", "page", self.write(SETTLED), f"{self.room}/page.html", *files)
+        self.assertEqual((status, said.count("\n"), os.path.exists(f"{self.room}/page.html")), (1, 1, False), said)
+        self.assertIn("is of another schedule", said)
+
+    def test_numbers_that_contradict_each_other_are_refused(self):
+        rows = [
+            (SETTLED, "payments 164", "payments 165", "the sum of payments is 165000000, and by the others 164000000")
+        ]
+        rows += [(SETTLED, "gap 164", "gap 165", "the gap is 165000000, and by the others 164000000")]
+        rows += [(SETTLED, "payment 66", "payment 67", 'the payment of "G1" is 67000000, and by the others 66000000')]
+        rows += [
+            (SETTLED, "supplied 3000", "supplied 3001", "what is supplied in period 1 is 3001, and by the others 3000")
+        ]
+        rows += [(CERTIFIED, "distance 37", "distance 36", "the distance is 36000000, and by the others 37000000")]
+        rows += [(CERTIFIED, "least 127", "least 128", "the least is 128000000, and by the others 127000000")]
+        for text, old, new, why in rows:
+            status, _, said = self.report("csv", self.write(text.replace(old, new)), "tables")
+            due = f"report.py: {self.room}/report.txt: its numbers contradict each other: {why}\n"
+            self.assertEqual((status, said), (1, due))
+
+    def test_a_text_that_is_named_twice_is_refused(self):
+        text = self.write(SETTLED)
+        status, _, said = run("report.py", "csv", text, text, f"{self.room}/tables")
+        due = f"report.py: {text} is named twice, and its rows in the tables would be one text's\n"
+        self.assertEqual((status, said, os.path.exists(f"{self.room}/tables")), (1, due, False))
 
     def test_prices_of_a_report_and_of_a_settlement(self):
         for text in (f"{EXAMPLES}/usual/price.output", self.write(SETTLED)):

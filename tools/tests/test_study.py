@@ -1,4 +1,5 @@
 """What a study works out of a settlement, by the numbers that examples/dear_schedule works by hand; none of it needs SciPy."""
+import argparse
 import csv
 import json
 import os
@@ -13,9 +14,13 @@ from tool import EXAMPLES, PROGRAM, run
 import hulltools
 from hulltools.cash_flows import total, unit_flows, uplift_by_period
 from hulltools.clock import Clock
+from hulltools.commands.words import add_fast_start, fast_start
+from hulltools.comparing import statement_of
 from hulltools.costs import Costs
 from hulltools.gap_parts import gap_parts
 from hulltools.settlement_rules import bill, forced_losses, paid_by_kind
+from hulltools.sweeping import without_unit
+from hulltools.tables import Table
 
 FOLDER = f"{EXAMPLES}/dear_schedule"
 MILLION = 10**6
@@ -40,13 +45,29 @@ class Parts(unittest.TestCase):
     def test_the_cost_of_the_best_schedule_is_a_bound_too(self):
         self.assertEqual(self.of(100, 90, 99, 95), (5, 0, 5))
 
+    def test_a_value_above_its_bound_is_refused(self):
+        with self.assertRaisesRegex(hulltools.HullError, "^the dual value 2,900.00 is above its bound 2,899.00: they"):
+            self.of(*money_of(3550, 2900, 2899, 3150))
+
     def test_without_a_second_schedule_two_parts_are_one(self):
         found = gap_parts(*money_of(3550, 2350, 2900), None)
         self.assertEqual((found.schedule, found.duality, found.prices, found.gap), (None, *money_of(650, 550, 1200)))
-        self.assertIn("no prices save 650.00, the schedule's part and the duality gap together", found.sentence("Here"))
+        self.assertIn(
+            "no whole prices within the limits of prices save 650.00, the schedule's part and the duality gap together",
+            found.sentence("Here"),
+        )
+
+    def test_where_the_bound_is_not_near_the_duality_gap_is_at_least_that(self):
+        far = gap_parts(*money_of(3550, 2350, 2900, 3150)).sentence("Here", False)
+        self.assertIn("at least 250.00 is the duality gap", far)
+        far = gap_parts(*money_of(3550, 2350, 2900), None).sentence("Here", False)
+        self.assertIn(
+            "no whole prices within the limits of prices save 650.00, a part of the schedule's part and the duality gap together",
+            far,
+        )
 
     def test_the_sentence_has_all_three(self):
-        due = "At LMP the gap is 1,200.00: 400.00 is the schedule's part, 250.00 is the duality gap, which no prices save, and at most 550.00 is the prices' part."
+        due = "At LMP the gap is 1,200.00: 400.00 is the schedule's part, 250.00 is the duality gap, which no whole prices within the limits of prices save, and at most 550.00 is the prices' part."
         self.assertEqual(gap_parts(*money_of(3550, 2350, 2900, 3150)).sentence("At LMP"), due)
 
 
@@ -58,10 +79,51 @@ class Clocks(unittest.TestCase):
         self.assertEqual(clock.times(3), ["2026-07-01T23:30", "2026-07-01T23:45", "2026-07-02T00:00"])
         self.assertEqual(clock.labels(3), ["23:30", "23:45", "00:00"])
 
+    def test_where_clocks_change_no_hour_is_guessed(self):
+        day = datetime(2026, 10, 25)
+        for hours, periods in ((1, 25), (None, 23), (Fraction(1, 4), 100)):
+            clock = Clock(hours and Fraction(hours), day)
+            self.assertEqual((set(clock.times(periods)), clock.labels(periods)[-1]), ({""}, str(periods)))
+            self.assertEqual(clock.axis(periods), "period")
+            self.assertIn("A start with its offset from UTC, as 2026-10-25T00:00+02:00", clock.why_unknown(periods))
+        for hours, periods in ((Fraction(1, 4), 25), (None, 24)):
+            self.assertEqual(Clock(hours, day).why_unknown(periods), "")
+        known = Clock(Fraction(1), datetime.fromisoformat("2026-10-25T00:00+02:00"))
+        self.assertEqual((known.why_unknown(25), known.times(25)[-1]), ("", "2026-10-26T00:00+02:00"))
+        self.assertEqual(known.axis(25), "beginning of the period, UTC+02:00")
+
+    def test_a_start_needs_the_length_of_what_may_be_no_hours(self):
+        day = datetime(2026, 7, 1)
+        for periods, what in ((96, "a day of quarter hours"), (46, "a day of 23 hours in half hours, on which clocks")):
+            due = f"^--start needs --hours-per-period here: {periods} periods may be {what}"
+            with self.assertRaisesRegex(hulltools.HullError, due):
+                Clock(None, day).need_length(periods)
+            Clock(Fraction(1), day).need_length(periods)
+            Clock().need_length(periods)
+        Clock(None, day).need_length(48)
+
     def test_nothing_is_known(self):
         clock = Clock()
         self.assertEqual((clock.price_text(7500), clock.price_unit), ("7.500", "per MW and period"))
         self.assertEqual((clock.times(2), clock.labels(2)), (["", ""], ["1", "2"]))
+
+
+class Heads(unittest.TestCase):
+    def test_a_currency_is_any_text(self):
+        for currency in ("a:b", "x:money", ":", "a:kw"):
+            table = Table([f"price_{currency}_per_mwh", "cost:money"], True, currency)
+            table.add(5, 7_000_000)
+            self.assertEqual(table.heads, [f"price_{currency}_per_mwh", f"cost_{currency}"])
+            self.assertEqual(table.rows, [[5, Decimal(7)]])
+        self.assertIn("price_;'=1+1_per_mw", Table(["price_;=1+1_per_mw"], True).text())
+
+
+class FastUnits(unittest.TestCase):
+    def test_an_empty_text_names_no_unit(self):
+        for words, names in ((["--fast-start", ""], ()), (["--fast-start", "A,B"], ("A", "B")), ([], None)):
+            ask = argparse.ArgumentParser()
+            add_fast_start(ask)
+            self.assertEqual(fast_start(ask.parse_args(words)).names, names)
 
 
 class Money(unittest.TestCase):
@@ -163,7 +225,16 @@ class SettleZones(unittest.TestCase):
             ({"units": {"COAL": "EAST"}}, 'the zone of unit "COAL" has no prices'),
             ({"units": {"GAS": "SOUTH"}}, 'the case has no unit "GAS"'),
             ({"zones": {}}, "no zones"),
-            ({"zones": {"SOUTH": {"energy": [30, 30]}}}, "zone SOUTH: energy isn't a list"),
+            (
+                {"zones": {"SOUTH": {"energy": [30, 30]}}},
+                "zone SOUTH: energy has 2 prices: one for each of 1 period is due",
+            ),
+            ({"zones": {"SOUTH": {"energy": 30}}}, "zone SOUTH: energy isn't a list"),
+            ({"unit": {"COAL": "SOUTH"}}, "zones.json: `unit` is no key of it: is `units` meant?\n"),
+            (
+                {"zones": {"SOUTH": {"energy": [30], "reserves": [1]}}},
+                "zones.json: zones: SOUTH: `reserves` is no key of it: is `reserve` meant?\n",
+            ),
         ):
             status, text, said = self.settle({**self.ZONES, **change})
             self.assertEqual((status, text, said.count("\n")), (1, "", 1))
@@ -187,6 +258,16 @@ class Compare(unittest.TestCase):
             ["unit,statement_currency,settlement_currency,difference_currency", "PEAKER,500.004,500,0.004"],
         )
 
+    def test_our_own_tables_are_taken_back(self):
+        """Names that a spreadsheet would evaluate have a mark in our tables, which is no part of them."""
+        names = ["-G1", "'-G1", "=A1", "G-1", "'", " +1"]
+        table = Table(["unit", "amount:money"], True)
+        for number, name in enumerate(names, 1):
+            table.add(name, number * MILLION)
+        due = {name.strip(): number * MILLION for number, name in enumerate(names, 1)}
+        found = statement_of("units.csv", table.text(), amount="amount_currency")
+        self.assertEqual({name.strip(): amount for name, amount in found.items()}, due)
+
     def test_differences_are_sorted(self):
         status, text, said = self.compare(
             'name,paid\nPEAKER,"1,000"\nPEAKER,-400\nGAS,20\n', "--unit", "name", "--amount", "paid"
@@ -203,15 +284,19 @@ class Compare(unittest.TestCase):
     def test_statements_that_are_none(self):
         for text, due in (
             ("unit,sum\n", "there is no column 'amount'"),
-            ("unit,amount\nPEAKER,five\n", "row 2: 'five' is no amount"),
-            ("unit,amount\nSTEEL,150\nPEAKER,500,00\n", "row 3: it has more cells than the first line names columns."),
+            ("unit,amount\nPEAKER,five\n", "line 2: 'five' is no amount"),
+            ("unit,amount\nSTEEL,150\nPEAKER,500,00\n", "line 3: it has more cells than the first line names columns."),
             ("unit,amount,amount\nPEAKER,9,500\n", "the column 'amount' stands twice"),
-            ("unit,amount\nPEAKER,nan\n", "row 2: 'nan' is no amount"),
-            ('unit,amount\nPEAKER,"5,00"\n', "row 2: '5,00' is no amount"),
-            ("unit,amount\nPEAKER,5_00\n", "row 2: '5_00' is no amount"),
+            ("unit,amount\nPEAKER,nan\n", "line 2: 'nan' is no amount"),
+            ('unit,amount\nPEAKER,"5,00"\n', "line 2: '5,00' is no amount"),
+            ('unit,amount\nPEAKER,"0,125"\n', "line 2: '0,125' is no amount"),
+            ('unit,amount\nPEAKER,"-0,000"\n', "line 2: '-0,000' is no amount"),
+            ("unit,amount\nPEAKER,5_00\n", "line 2: '5_00' is no amount"),
+            ('unit,amount\n"PEAKER,500\nSTEEL,150\n', "line 2: no row of comma separated values: a quote is without"),
+            ('unit,amount\n\nPEAKER,"500\n"\n', "line 3: a line's end stands in a cell."),
             (
                 f"unit,amount\nPEAKER,{'5' * 200_000}\n",
-                "statement.csv: no table of comma separated values: field larger",
+                "statement.csv, line 2: no row of comma separated values: field larger",
             ),
         ):
             status, table, said = self.compare(text)
@@ -246,6 +331,24 @@ class ChangedCases(unittest.TestCase):
         for change in (lambda: case.without("GAS"), lambda: case.scaled(offers={"GAS": 2})):
             with self.assertRaisesRegex(hulltools.HullError, 'the case has no unit "GAS"'):
                 change()
+
+    def test_a_name_of_two_kinds_needs_its_kind(self):
+        """COAL is a buyer too: without a kind neither is left out, and with it one of the two."""
+        case = hulltools.read_case(f"{FOLDER}/case.json")
+        case.bids[0].name = "COAL"
+        with self.assertRaisesRegex(
+            hulltools.HullError, r'a thermal and a bid "COAL": .* without\("COAL", kind="thermal"'
+        ):
+            case.without("COAL")
+        names = [(kind, unit.name) for kind, unit in case.units]
+        for kind in ("thermal", "bid"):
+            due = [it for it in names if it != (kind, "COAL")]
+            for found in (case.without("COAL", kind=kind), without_unit(f"{kind}:COAL")(case)):
+                self.assertEqual([(known, unit.name) for known, unit in found.units], due)
+        case.bids[0].name = "bid:COAL"
+        self.assertEqual(without_unit("bid:COAL")(case).bids, [])
+        with self.assertRaisesRegex(hulltools.HullError, 'no bid unit "COAL"'):
+            case.without("COAL", kind="bid")
 
 
 if __name__ == "__main__":

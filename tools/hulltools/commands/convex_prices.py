@@ -11,7 +11,8 @@ usage: convex_prices.py CASE SCHEDULE PRICES MIXTURE [--within MONEY] [--rounds 
   --best-schedule S2  the best schedule known: the last line then tells the schedule's part of the gap from the duality gap
   --hull PROGRAM   the program; the launcher of this repository if left out
 
-The last line has the gap in its parts: what the schedule costs above the best one known, what no prices save, and what better prices might.
+The last line has the gap in its parts: what the schedule costs above the best one known, what no whole prices within the
+limits of prices save, and what better prices might. A case or schedule that is changed meanwhile is refused, and nothing is written.
 One mixture serves for any prices of the case: `hull certify` with prices of your own and MIXTURE says how near those are to the best.
 """
 from __future__ import annotations
@@ -26,6 +27,7 @@ from ..gap_parts import gap_parts
 from ..numbers import money
 from ..outputs import Convex
 from ..program import Hull
+from ..provenance import refuse_changed, sums_of_files
 from .words import add_seconds, asker, distance, rounds
 
 
@@ -57,13 +59,17 @@ def body(words: Sequence[str], tell: Tell) -> None:
         try_output(name, inputs)
     if os.path.realpath(given.prices) == os.path.realpath(given.mixture):
         raise HullError(f"{given.mixture}: prices and mixture need a file each")
-    hull = Hull(given.hull, tell, given.seconds)
+    hull, before = Hull(given.hull, tell, given.seconds), sums_of_files(inputs)
     found = hull.convex(given.case, given.schedule, given.within, given.rounds)
     best_cost = hull.check(given.case, given.best_schedule) if given.best_schedule else None
+    refuse_changed(before, "the gap would be")
+    parts = gap_parts(found.cost, found.value, found.bound, best_cost)
     texts = {given.prices: found.prices.text(), given.mixture: found.mixture.text()}
     write_together({**texts}, inputs, follow_links=True)
     tell(told(found))
-    tell(gap_parts(found.cost, found.value, found.bound, best_cost).sentence("at these prices"))
+    if found.prices.told_limits:
+        tell(found.prices.told_limits)
+    tell(parts.sentence("at these prices", found.is_near))
 
 
 def main(words: Optional[Sequence[str]] = None) -> int:

@@ -16,6 +16,9 @@ A fast-start unit may be on by any part between 0 and 1 in each period. It then 
 so both are spread over the power that it gives. MISO's ELMP (tariff, schedule 29A), and the fast-start pricing of PJM (Manual 11) and
 ISO New England, relax such units so, each with rules of its own for who is eligible; Schiro, Zheng, Zhao and Litvinov (2016) set
 them beside convex hull prices. Needs SciPy.
+
+Status 3: a price was outside the limits of prices, -10,000 to 10,000 per MW and period. The limit is written in its place, and a line
+tells it.
 """
 from __future__ import annotations
 
@@ -28,10 +31,10 @@ from ..linear import need_scipy
 from ..program import Hull
 from ..relaxation import fast_start_prices
 from ..schedules import read_schedule
-from .words import add_fast_start, add_seconds, asker, fast_start, solver_seconds
+from .words import add_fast_start, add_seconds, asker, fast_start, solver_seconds, status_of
 
 
-def body(words: Sequence[str], tell: Tell) -> None:
+def body(words: Sequence[str], tell: Tell) -> int:
     ask = asker("elmp.py", __doc__)
     for option in ("case", "schedule", "prices", "--hull"):
         ask.add_argument(option)
@@ -49,6 +52,7 @@ def body(words: Sequence[str], tell: Tell) -> None:
     prices = fast_start_prices(case, read_schedule(given.schedule, case), fast, solver_seconds(given))
     prices.write(given.prices, inputs)
     tell(f"fast-start: {one_line(', '.join(names))}")
+    return status_of(prices, tell)
 
 
 def main(words: Optional[Sequence[str]] = None) -> int:

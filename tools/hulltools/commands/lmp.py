@@ -9,6 +9,9 @@ usage: lmp.py CASE SCHEDULE PRICES [--seconds S] [--hull PROGRAM]
 
 These are the prices that an ordinary market sets once the commitment is given. Where several prices are right, as at a kink of a cost
 curve, the solver takes one. Needs SciPy.
+
+Status 3: a price was outside the limits of prices, -10,000 to 10,000 per MW and period. The limit is written in its place, and a line
+tells it.
 """
 from __future__ import annotations
 
@@ -21,10 +24,10 @@ from ..program import Hull
 from ..relaxation import held_prices
 from ..schedules import read_schedule
 from ..errors import Tell, run_tool, try_output
-from .words import add_seconds, asker, solver_seconds
+from .words import add_seconds, asker, solver_seconds, status_of
 
 
-def body(words: Sequence[str], tell: Tell) -> None:
+def body(words: Sequence[str], tell: Tell) -> int:
     ask = asker("lmp.py", __doc__)
     for option in ("case", "schedule", "prices", "--hull"):
         ask.add_argument(option)
@@ -36,6 +39,7 @@ def body(words: Sequence[str], tell: Tell) -> None:
     case = read_case(given.case)
     prices = held_prices(case, read_schedule(given.schedule, case), solver_seconds(given))
     prices.write(given.prices, [given.case, given.schedule])
+    return status_of(prices, tell)
 
 
 def main(words: Optional[Sequence[str]] = None) -> int:

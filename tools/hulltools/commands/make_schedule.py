@@ -2,7 +2,7 @@
 
 usage: make_schedule.py CASE SCHEDULE [--gap G] [--nodes N] [--seconds S] [--follow FILE [--tolerance MW] [--deviations TABLE]] [--hull PROGRAM]
 
-  CASE            a case as `hull` reads it (docs/FORMATS.md)
+  CASE            a case as `hull` reads it (docs/FORMATS.md); one that is changed during the search is refused
   SCHEDULE        where the schedule is written, once `hull check` has accepted it
   --gap G         end at a cost within this share of the solver's bound; 0.0005 if left out
   --nodes N       end after so many nodes of the solver's tree, and take what it has, with status 3; at most 2147483647,
@@ -13,9 +13,11 @@ usage: make_schedule.py CASE SCHEDULE [--gap G] [--nodes N] [--seconds S] [--fol
   --follow FILE   no search: the commitments of a schedule in megawatts from elsewhere, and whole kilowatts as near to its powers as
                   can be; of these the cheapest, and powers that FILE hasn't are free. JSON as egret and UnitCommitment.jl write
                   it, plain or .json.gz, or as a schedule of hull in megawatts, the folder of a solved PyPSA network, or a csv with the columns
-                  unit, period, on, power and reserve
-  --tolerance MW  with --follow: write nothing where a power is farther than this from FILE's
-  --deviations TABLE  with --follow: a csv of the powers and reserves that aren't FILE's, the farthest first
+                  unit, period, on, power and reserve. A unit with a row in the csv has one for each period, and an empty cell is 0 where the
+                  unit is off. Units of FILE and of the case are the same by their names
+  --tolerance MW  with --follow: write no schedule where a power is farther than this from FILE's
+  --deviations TABLE  with --follow: a csv of the powers and reserves that aren't FILE's, the farthest first; it is written also where
+                  --tolerance or `hull check` refuses the schedule
   --hull PROGRAM  the program that checks; the launcher of this repository if left out
 
 Gap and nodes don't depend on the clock: the same version of SciPy makes the same schedule of a case. The last line says how far above the
@@ -32,17 +34,17 @@ kilowatts next to that which balance exactly and cost least (a small integer pro
 from __future__ import annotations
 
 import argparse
-import os
 from collections.abc import Sequence
 from types import SimpleNamespace
 from typing import Optional, Union
 
 from ..cases import Case, read_case
-from ..deviations import deviations, farthest, in_words, table_text
-from ..external_schedules import read_followed, strangers
+from ..deviations import farthest, in_words, table_text
+from ..external_schedules import free_units, read_followed, some, strangers
 from ..linear import need_scipy
-from ..numbers import money
+from ..numbers import Millionths, money
 from ..program import Hull
+from ..provenance import refuse_changed, sums_of_files
 from ..scheduling import Made, follow, make_schedule
 from ..search_limits import SearchLimits
 from ..errors import HullError, Tell, refuse_twice, run_tool, try_output, write_whole
@@ -71,18 +73,20 @@ def checked_case(hull: Hull, name: str) -> Case:
     return read_case(name)
 
 
-def followed_schedule(given: Given, case: Case) -> tuple[Made, str]:
+def followed_schedule(given: Given, case: Case, tell: Tell) -> tuple[Made, str]:
     """What follows a schedule from elsewhere, and how far it is from that."""
     followed = read_followed(given.follow, case)
+    if free := free_units(followed, case):
+        tell(f"{given.follow} has no powers of {some(free)}, which are free")
     made = follow(case, followed, given.follow, solver_seconds(given))
-    found = deviations(made.schedule, followed)
+    found = made.deviations
     if given.deviations:
         write_whole(given.deviations, table_text(found), [given.case, given.follow])
     told = in_words(found, given.follow)
     if unknown := strangers(followed, case):
-        told += f"; the case has no {', '.join(unknown[:3])}{', ..' * (len(unknown) > 3)}, which it names"
+        told += f"; the case has no {some(unknown)}, which it names"
     if given.tolerance is not None and farthest(found, "power") > 1e3 * given.tolerance:
-        raise HullError(f"nothing is written, since {told}; --tolerance {given.tolerance:g} MW was asked for")
+        raise HullError(f"no schedule is written, since {told}; --tolerance {given.tolerance:g} MW was asked for")
     return made, told
 
 
@@ -93,19 +97,21 @@ def searched_schedule(case: Case, limits: SearchLimits, tell: Tell) -> Made:
     return make_schedule(case, limits)
 
 
-def make(given: Given, limits: SearchLimits, tell: Tell) -> tuple[Made, int, str]:
+def make(given: Given, limits: SearchLimits, tell: Tell) -> tuple[Made, Millionths, str]:
     """Makes the schedule, has it checked, writes it; what was made, its cost in millionths and what is to be said of it."""
     hull = Hull(given.hull, tell, given.seconds)
+    before = sums_of_files([given.case])
     case = checked_case(hull, given.case)
     reached: Optional[str] = None
     if given.follow:
-        found, reached = followed_schedule(given, case)
+        found, reached = followed_schedule(given, case, tell)
     else:
         found = searched_schedule(case, limits, tell)
     try:
         cost = hull.check(given.case, found.schedule)
     except HullError as why:
-        raise HullError(f"nothing is written, since what was found is refused: {why.line}") from None
+        raise HullError(f"no schedule is written, since what was found is refused: {why.line}") from None
+    refuse_changed(before, "search and check are", "no schedule is written")
     write_whole(given.schedule, found.schedule.text(), [given.case])
     return found, cost, reached or found.told(cost)
 
@@ -122,7 +128,7 @@ def body(words: Sequence[str], tell: Tell) -> int:
             try_output(output, inputs)
     found, cost, reached = make(given, search_limits(given), tell)
     tell(f"hull check accepts {given.schedule}: cost {money(cost)}; {reached}")
-    return 0 if found.is_near else MISSED_GAP
+    return MISSED_GAP if found.is_near is False else 0
 
 
 def main(words: Optional[Sequence[str]] = None) -> int:

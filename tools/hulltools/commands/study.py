@@ -25,8 +25,9 @@ usage: study.py CASE FOLDER [--schedule S] [--best-schedule S2 | --no-schedule] 
 
   --rule RULE         payments under this rule alone: make-whole, or full, which adds lost opportunity; both if left out
   --title, --currency  what the page is called, and what money is in
-  --start TIME        when period 1 begins, as 2026-07-01T00:00, up to the year 9000
-  --hours-per-period H  how long a period is, as 0.25 or 1/12, from 1/3600 to 8784; prices are then told per MWh
+  --start TIME        when period 1 begins, as 2026-07-01T00:00, up to the year 9000; where clocks change with its offset, as 2026-10-25T00:00+02:00
+  --hours-per-period H  how long a period is, as 0.25 or 1/12, from 1/3600 to 8784; prices are then told per MWh. --start
+                      takes an hour if left out, but for 46, 50, 92, 96 or 100 periods, where it is refused
 
   --gap, --nodes      when a search for a schedule ends, as for make_schedule.py
   --within, --rounds  when the search of `hull convex` ends: at a distance of 1.00, or after 150 rounds, if left out
@@ -37,12 +38,12 @@ usage: study.py CASE FOLDER [--schedule S] [--best-schedule S2 | --no-schedule] 
 
 Nothing that is written was chosen by the clock: what the searches find depends on the files, the words and the versions of SciPy and HiGHS,
 which the page names. Status 3: the files are written, and a schedule that was made misses its gap, or none was made beside S, or a list took
-too long; the page says so.
+too long, or its prices were cut at the limits of prices, or convex hull prices miss their distance; the page says so.
 
-FOLDER is that of one study: its files come there together, in place of those of the study before, when all are made. After Ctrl-C or TERM these
-are the lists that were there by then, and UNFINISHED.txt says which are missing, with status 130 or 143; a third one ends it at once. Where
-nothing was made FOLDER stays as it was. A file that no study made, or that was changed since, isn't replaced: the study is refused, with status
-2. docs/STUDY.md says what the lists are and how the page is read. Needs SciPy.
+FOLDER is that of one study: its files come there together, in place of those of the study before, when all are made. After Ctrl-C, TERM or HUP
+these are the lists that were there by then, and UNFINISHED.txt says which are missing, with status 130, 143 or 129; a third one ends it at
+once, but for HUP. Where nothing was made FOLDER stays as it was. A file that no study made, or that was changed since, isn't replaced: the
+study is refused, with status 2. docs/STUDY.md says what the lists are and how the page is read. Needs SciPy.
 """
 from __future__ import annotations
 
@@ -59,11 +60,12 @@ from ..clock import Clock
 from ..errors import HullError, Tell, is_utf8, one_line, run_tool, write_together
 from ..linear import need_scipy
 from ..lint import first_look
-from ..numbers import money
+from ..numbers import Millionths, money
 from ..prices import read_prices
 from ..progress import step
 from ..program import Hull
-from ..provenance import Provenance, Source, command_line, date_of_run, sha256_of, versions
+from ..provenance import Provenance, Source, command_line, date_of_run, refuse_changed, sha256_of, sums_of_files
+from ..provenance import versions
 from ..schedules import read_schedule
 from ..scheduling import Made
 from ..settlement_rules import RULES
@@ -138,6 +140,7 @@ def wanted(given: argparse.Namespace, case: Case) -> Wanted:
 
     files = {name: read_prices(file, case.periods) for name, file in given.prices}
     clock = Clock(given.hours_per_period, given.start)
+    clock.need_length(case.periods)
     rules = [given.rule] if given.rule else list(RULES)
     zones = read_zones(given.zones, case) if given.zones else None
     found = Wanted(given.search, fast_start(given), files, zones, rules, given.title, given.currency, clock)
@@ -151,13 +154,13 @@ class Schedules:
     """The schedule, its cost, and the best one known, which may be the same."""
 
     schedule: Source
-    cost: int
+    cost: Millionths
     best: Optional[Source] = None
-    best_cost: Optional[int] = None
+    best_cost: Optional[Millionths] = None
     missing: str = ""  # why no best schedule was made
 
 
-def made_source(given: argparse.Namespace, name: str, tell: Tell) -> tuple[Source, int]:
+def made_source(given: argparse.Namespace, name: str, tell: Tell) -> tuple[Source, Millionths]:
     """Makes a schedule at a place; the source and its cost."""
     words = SimpleNamespace(case=given.case, schedule=name, follow=None, hull=given.hull, seconds=given.seconds)
     found, cost, reached = make(words, search_limits(given), tell)
@@ -167,10 +170,10 @@ def made_source(given: argparse.Namespace, name: str, tell: Tell) -> tuple[Sourc
 
 def made_by_search(name: str, found: Made, reached: str) -> Source:
     how = f"made by make_schedule.py, {reached}"
-    return Source(name, sha256_of(name), how, found.gap, found.is_near)
+    return Source(name, sha256_of(name), how, found.gap, found.is_near is not False)
 
 
-def given_source(hull: Hull, case: str, name: str) -> tuple[Source, int]:
+def given_source(hull: Hull, case: str, name: str) -> tuple[Source, Millionths]:
     return Source(name, sha256_of(name), "given"), hull.check(case, name)
 
 
@@ -211,8 +214,7 @@ def study_of(
     """
     from ..studies import Maker, Study, files_of
 
-    # (a pipe is read once)
-    date, before = date_of_run(), {name: sha256_of(name) for name in inputs_of(given) if os.path.isfile(name)}
+    date, before = date_of_run(), sums_of_files(inputs_of(given))
     case = read_case(given.case)
     want = wanted(given, case)
     look(files_of(want, not given.schedule, bool(given.schedule and not given.best_schedule and not given.no_schedule)))
@@ -226,9 +228,7 @@ def study_of(
         study.is_short = True
         study.notes.append(found.missing)
     Maker(hull, files, study, room, tell).make(until_written)
-    changed = next((name for name, was in before.items() if sha256_of(name) != was), None)
-    if changed:
-        raise HullError(f"{changed} was changed meanwhile, so the lists are of more than one file: nothing is written")
+    refuse_changed(before, "the lists are")
     if not study.lists:
         if study.interrupted:
             raise study.interrupted
@@ -286,7 +286,7 @@ def body(words: Sequence[str], tell: Tell) -> int:
         return study.interrupted.status
     tell(f"{os.path.join(given.folder, 'study.html')} and the tables beside it are written")
     sources = (study.provenance.schedule, study.provenance.best_schedule)
-    return MISSED_GAP if study.is_short or any(it and not it.is_near for it in sources) else 0
+    return MISSED_GAP if study.is_short or study.is_far or any(it and not it.is_near for it in sources) else 0
 
 
 def main(words: Optional[Sequence[str]] = None) -> int:

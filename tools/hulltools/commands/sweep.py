@@ -4,18 +4,20 @@ usage: sweep.py CASE FOLDER [--demand P].. [--wind P].. [--offer NAME=P].. [--ou
 
   CASE             a case as `hull` reads it; it is studied as it is too, as the scenario `base`
   FOLDER           gets sweep.csv, a row for each scenario and price list, sweep.svg, and a folder for each scenario
-  --demand P       demand times 1 + P, as --demand=-2% or --demand=-2%,+2%
+  --demand P       demand times 1 + P, as --demand=-2% or --demand=-2%,+2%; each P has its %
   --wind P         the same of the power of all renewable units
   --offer NAME=P   the same of the cost curve of a thermal unit; its start costs stay
-  --outage NAME    the case without the unit or buyer
+  --outage NAME    the case without the unit or buyer; where units of two kinds have the name, with the kind before it, as
+                   thermal:G2, renewable:G2 or bid:G2
   --hull PROGRAM   the program; the launcher of this repository if left out
   -- WORDS         what stands behind -- are words of study.py, as --search or --gap 0.001
 
 Each scenario gets a schedule of its own. A scenario that is done stays so: after an interrupt the same words go on with what is left, and what
-was made of another case or by other words is made anew. A scenario whose case can't be met is told and left out, with status 1 in the end.
+was made of another case, by other words or by another program is made anew. A scenario whose case can't be met is told and left out, with status 1 in the end.
 A file that no sweep made is refused before anything is made, with status 2; one that was changed since gets another name, which is told.
-After Ctrl-C the table and picture have the scenarios that are done, with status 130; --seconds and --skip behind -- limit the steps of each
-scenario. Needs SciPy.
+The table and picture of the sweep before go first. Where another sweep changes a scenario meanwhile there are none, with status 1. After Ctrl-C, TERM or HUP they have the scenarios that are done, and UNFINISHED.txt says so, with status
+130, 143 or 129; --seconds and --skip behind --
+limit the steps of each scenario. Needs SciPy.
 """
 from __future__ import annotations
 
@@ -25,6 +27,7 @@ import os
 from collections.abc import Sequence
 from contextlib import ExitStack
 from dataclasses import replace
+from functools import cached_property
 from typing import TYPE_CHECKING, Optional
 
 from .. import __version__
@@ -60,6 +63,9 @@ if TYPE_CHECKING:
 SWEEP = "sweep.py"
 CASE, TABLE, DONE = "case.json", "table.csv", "done.json"  # of each scenario
 GATHERED = ("sweep.csv", "sweep.svg")
+NOT_THERE = (
+    "The table and the picture of this sweep aren't there: it is at work, or was ended, or left every scenario out."
+)
 
 
 def arguments(words: Sequence[str]) -> argparse.Namespace:
@@ -79,11 +85,12 @@ def files_read(given: argparse.Namespace) -> list[str]:
     return inputs_of(study_arguments([given.case, given.folder, *given.more]))
 
 
-def work_of(case: str, words: Sequence[str], inputs: Sequence[str]) -> Mark:
-    """What a scenario's files are made of."""
+def work_of(case: str, words: Sequence[str], inputs: Sequence[str], program: Sequence[str]) -> Mark:
+    """What a scenario's files are made of, and by which program."""
     sums = {name: sha256_of(name) for name in inputs if os.path.isfile(name)}
     total = hashlib.sha256(case.encode()).hexdigest()
-    return {"tool": SWEEP, "version": __version__, "case": total, "words": list(words), "inputs": sums}
+    made_by = {"tool": SWEEP, "version": __version__, "program": list(program)}
+    return {**made_by, "case": total, "words": list(words), "inputs": sums}
 
 
 def folder_of(folder: str, scenario: Scenario, inputs: Sequence[str]) -> StudyFolder:
@@ -138,14 +145,21 @@ def table_of(folder: StudyFolder, case: str, words: Sequence[str], work: Mark, h
     return table
 
 
-def write_sweep(folder: str, tables: dict[str, str], inputs: Sequence[str]) -> None:
-    """Puts the table and the picture in their places, whatever interrupts come meanwhile."""
+def begin_sweep(folder: str, inputs: Sequence[str]) -> None:
+    """Takes away the table and the picture of the sweep before, which aren't of this one, however this one ends."""
+    if any(os.path.lexists(os.path.join(folder, name)) for name in GATHERED):
+        with heard_later(), StudyFolder(folder, inputs, SWEEP) as place:
+            place.place(NOT_THERE)
+
+
+def write_sweep(folder: str, tables: dict[str, str], inputs: Sequence[str], unfinished: str = "") -> None:
+    """Puts the table and the picture in their places, whatever interrupts come meanwhile; `unfinished` says what is missing."""
     if tables:
         with heard_later(), StudyFolder(folder, inputs, SWEEP) as place:
             text = joined(tables)
             texts = dict(zip(GATHERED, (text, picture_of_sweep(text))))
             write_together({os.path.join(place.room, name): it for name, it in texts.items()})
-            place.place()
+            place.place(unfinished)
 
 
 class Sweep:
@@ -156,7 +170,15 @@ class Sweep:
         self.scenarios = scenarios_of(given.demand, given.wind, given.offer, given.outage)
         self.inputs = files_read(given)
         self.tables: dict[str, str] = {}
+        self.works: dict[
+            str, tuple[str, Mark]
+        ] = {}  # by the name of a scenario that is done: its folder, and what it is made of
         self.left_out = 0
+
+    @cached_property
+    def program(self) -> list[str]:
+        """What tells the program apart, asked when the first scenario is due."""
+        return self.hull.sums()
 
     def refuse(self) -> None:
         """Refuses words and folders that can't be, before anything is made."""
@@ -171,16 +193,30 @@ class Sweep:
         words, case = self.given.more, scenario.change(self.case).text()
         try:
             folder = folder_of(self.given.folder, scenario, self.inputs)
-            work = work_of(case, words, self.inputs[1:])
+            work = work_of(case, words, self.inputs[1:], self.program)
             with step(scenario.name):
                 self.tables[scenario.name] = table_of(folder, case, words, work, self.hull, self.tell)
+                self.works[scenario.name] = folder.folder, work
                 Found.is_there = True
         except HullError as why:
             self.left_out += 1
             self.tell(f"{scenario.name} is left out: {why.line}")
 
-    def write(self) -> None:
-        write_sweep(self.given.folder, self.tables, self.inputs)
+    def begin(self) -> None:
+        begin_sweep(self.given.folder, self.inputs)
+
+    def look_again(self) -> None:
+        """Takes the tables that lie there now. Where another sweep of this folder made a scenario anew there is no table of all."""
+        for name, (folder, work) in self.works.items():
+            table = table_done(folder, work)
+            if table is None:
+                self.begin()
+                raise HullError(f"{folder}: this was changed meanwhile, so there is no table of all: sweep again")
+            self.tables[name] = table
+
+    def write(self, unfinished: str = "") -> None:
+        self.look_again()
+        write_sweep(self.given.folder, self.tables, self.inputs, unfinished)
 
 
 def body(words: Sequence[str], tell: Tell) -> int:
@@ -190,12 +226,13 @@ def body(words: Sequence[str], tell: Tell) -> int:
     sweep = Sweep(given, Hull(given.hull, tell, seconds), read_case(given.case), tell)
     sweep.refuse()
     try:
+        sweep.begin()
         for scenario in sweep.scenarios:
             sweep.add(scenario)
     except Interrupted as why:
         taken(why)
-        sweep.write()
         of_all = f"{len(sweep.tables)} of {len(sweep.scenarios)} scenarios are done"
+        sweep.write(f"Interrupted: {of_all}.")
         tell(f"interrupted: {of_all}; the same words go on with the others")
         return why.status
     sweep.write()

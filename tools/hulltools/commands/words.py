@@ -3,27 +3,48 @@ from __future__ import annotations
 
 import argparse
 import math
+import os
 import re
 from datetime import datetime
 from fractions import Fraction
 from types import SimpleNamespace
-from typing import Optional, TypeVar, Union
+from typing import NoReturn, Optional, TypeVar, Union
 
 from ..fast_start import FastStart
 from ..numbers import millionths
+from ..errors import Tell, told_with
 from ..options import MOST_SECONDS
 from ..outputs import ROUNDS, WITHIN
+from ..prices import Prices
 from ..search_limits import MOST_NODES, SECONDS, SearchLimits
+from ..telling import one_line
 
 MISSED_GAP = 3  # the status where a schedule is written that misses the gap
+CUT = 3  # the status where prices are written that were cut at the limits
 HOURS = re.compile(r"[0-9./]{1,40}")
 LAST_YEAR = 9000  # (with it no period of a case begins behind the last year that there is)
 Range = TypeVar("Range", int, float)
 
 
-def asker(tool: str, doc: Optional[str]) -> argparse.ArgumentParser:
+class Asker(argparse.ArgumentParser):
+    """A reader of words that repeats none of them as it is: a word may have what commands a terminal or turns text around."""
+
+    def error(self, message: str) -> NoReturn:
+        super().error(one_line(message))
+
+
+def description_of(tool: str) -> str:
+    """A tool's description as its source has it: `python3 -OO` leaves such texts out."""
+    import ast
+
+    place = os.path.join(os.path.dirname(os.path.abspath(__file__)), tool)
+    with told_with(place), open(place, encoding="utf-8") as file:
+        return ast.get_docstring(ast.parse(file.read()), clean=False) or ""
+
+
+def asker(tool: str, doc: Optional[str]) -> Asker:
     """A reader of words whose usage is that of the tool's description."""
-    return argparse.ArgumentParser(prog=tool, usage=(doc or "usage: ").split("usage: ")[1].rstrip().replace("%", "%%"))
+    return Asker(prog=tool, usage=(doc or description_of(tool)).split("usage: ")[1].rstrip().replace("%", "%%"))
 
 
 def within(number: Range, least: Range, most: Range) -> Range:
@@ -39,6 +60,13 @@ def positive(text: str) -> float:
     if not 0 <= number < math.inf:
         raise ValueError(text)
     return number
+
+
+def status_of(prices: Prices, tell: Tell) -> int:
+    """The status of a tool that wrote such prices; those that were cut are told."""
+    if prices.cut:
+        tell(prices.told_cuts)
+    return CUT if prices.cut else 0
 
 
 def count(text: str) -> int:
@@ -115,6 +143,7 @@ def add_fast_start(ask: argparse.ArgumentParser) -> None:
 
 
 def fast_start(given: argparse.Namespace) -> FastStart:
-    names = tuple(given.fast_start.split(",")) if given.fast_start else None
+    # (an empty text names no unit: it isn't the rule)
+    names = tuple(given.fast_start.split(",")) if given.fast_start else None if given.fast_start is None else ()
     cost = None if given.fast_start_cost is None else millionths(str(given.fast_start_cost))
     return FastStart(names, given.fast_start_up, cost, given.online_only)
