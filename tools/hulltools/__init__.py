@@ -11,18 +11,28 @@ which says it in a sentence. docs/PYTHON.md is the way in.
 """
 from __future__ import annotations
 
+import re
 from typing import TYPE_CHECKING, Any, List, Mapping, Optional, Union
 
 from . import faults
 from .cases import Bid, Case, Factor, Renewable, Thermal, read_case
-from .errors import HullError, Name, Tell
+from .errors import CannotBeMet, HullError, Name, OverTime, Tell
 from .faults import Files
-from .inputs import GivenCase, GivenMixture, GivenPrices, GivenSchedule, GivenZones, PerMwh, is_name, per_mwh
+from .inputs import (
+    GivenCase,
+    GivenMixture,
+    GivenPowers,
+    GivenPrices,
+    GivenSchedule,
+    GivenZones,
+    PerMwh,
+    is_name,
+    per_mwh,
+)
 from .mixtures import Entry, Mixture, read_mixture
 from .named_texts import GivenTexts, Money
 from .numbers import Kilowatts, Millionths, MillionthsPerKilowatt, in_currency, in_currency_per_mw, in_megawatts
-from .options import whole_option
-from .outputs import RADIUS, Bound, Certificate, Convex, Fixed, Owed, Report, Row, Settlement, Side, Text, frames
+from .outputs import Bound, Certificate, Convex, Fixed, Owed, Report, Row, Settlement, Side, Text, frames
 from .prices import FlatPrices, Prices, PriceSource, prices_near, read_prices
 from .program import Hull
 from .read_texts import read_output
@@ -31,28 +41,39 @@ from .tables import Start, Table
 from .zones import Zonal, Zones
 
 if TYPE_CHECKING:
-    from .calls import convex_prices, elmp, integer_relaxation, lmp, make_schedule, settle_zones, study
+    from .calls import (
+        convex_prices,
+        elmp,
+        follow_schedule,
+        integer_relaxation,
+        lmp,
+        make_schedule,
+        settle_zones,
+        study,
+    )
+    from .deviations import Deviation
     from .gap_parts import GapParts
     from .scheduling import Made
     from .studies import Study
 
 __version__ = "1.0"
+FAULT_LINE = re.compile(r"^hull \w+ ended with status \d+: (fault [^\n]+)\s*\Z")  # of a `HullError`
 Wrong = HullError  # the name in version 1.0
 # What is loaded when it is first used, and the module that has it.
 LATER = {
-    **dict.fromkeys(
-        ("convex_prices", "elmp", "integer_relaxation", "lmp", "make_schedule", "settle_zones", "study"), "calls"
-    ),
+    **dict.fromkeys(("convex_prices", "elmp", "follow_schedule", "integer_relaxation", "lmp"), "calls"),
+    **dict.fromkeys(("make_schedule", "settle_zones", "study"), "calls"),
+    "Deviation": "deviations",
     "GapParts": "gap_parts",
     "Made": "scheduling",
     "Study": "studies",
 }
 __all__ = [
-    "Bid", "Bound", "Case", "Certificate", "Convex", "Entry", "Factor", "Files", "Fixed", "FlatPrices", "GapParts",
-    "GivenCase", "GivenMixture", "GivenPrices", "GivenSchedule", "GivenTexts", "GivenZones", "Hull", "HullError",
-    "Kilowatts", "Made", "Millionths", "MillionthsPerKilowatt", "Mixture", "Money", "Name", "Owed", "PerMwh", "Plan",
+    "Bid", "Bound", "CannotBeMet", "Case", "Certificate", "Convex", "Deviation", "Entry", "Factor", "Files", "Fixed", "FlatPrices", "GapParts",
+    "GivenCase", "GivenMixture", "GivenPowers", "GivenPrices", "GivenSchedule", "GivenTexts", "GivenZones", "Hull", "HullError",
+    "Kilowatts", "Made", "Millionths", "MillionthsPerKilowatt", "Mixture", "Money", "Name", "OverTime", "Owed", "PerMwh", "Plan",
     "PriceSource", "Prices", "Renewable", "Report", "Row", "Schedule", "Settlement", "Side", "Start", "Study", "Table", "Tell", "Text", "Thermal",
-    "Wrong", "Zonal", "Zones", "certify", "check", "convex_prices", "elmp", "frames", "in_currency",
+    "Wrong", "Zonal", "Zones", "certify", "check", "convex_prices", "elmp", "follow_schedule", "frames", "in_currency",
     "in_currency_per_mw", "in_megawatts", "integer_relaxation", "lmp", "make_schedule", "per_mwh", "price",
     "prices_near", "read_case", "read_mixture", "read_output", "read_prices", "read_schedule", "sentence", "settle",
     "settle_zones", "study",
@@ -76,13 +97,14 @@ def __dir__() -> List[str]:
 def sentence(line: str, files: Union[Files, Mapping[str, Name]]) -> str:
     """A fault line of docs/FAULTS.md in words, with the unit's name, what stands in the file and what is due.
 
-    The files are `Files`, or a dict of names by `case`, `schedule`, `prices`, `mixture` and `report`. Raises
+    The line may be that of a `HullError`, which has the fault line at its end. The files are `Files`, or a dict of names by `case`, `schedule`, `prices`, `mixture` and `report`. Raises
     `HullError` where it is no such line, or where a file that it is told of isn't among them or can't be read.
     """
     given = Files(files) if isinstance(files, Mapping) else files
     if not isinstance(given, Files) or not all(is_name(name) for name in given.names.values()):
         raise HullError("files is a dict of files' names, by `case`, `schedule`, `prices`, `mixture` and `report`")
-    return faults.sentence(line, given)
+    found = FAULT_LINE.search(line) if isinstance(line, str) else None
+    return faults.sentence(found[1] if found else line, given)
 
 
 def check(case: GivenCase, schedule: GivenSchedule, hull: Optional[Name] = None) -> Millionths:
@@ -104,11 +126,7 @@ def price(
 
     What is left out is as the program has it. Raises `HullError` where it refuses a file or the work.
     """
-    words: List[str] = []
-    for name, number, most in (("proposals", proposals, 10_000), ("ahead", ahead, 16)):
-        if number is not None:
-            words += [f"--{name}", str(whole_option(name, number, 1, most))]
-    return Hull(hull).price(case, schedule, *words)
+    return Hull(hull).price(case, schedule, proposals=proposals, ahead=ahead)
 
 
 def settle(
@@ -133,11 +151,12 @@ def certify(
     mixture: GivenMixture,
     radius: Optional[int] = None,
     hull: Optional[Name] = None,
+    radius_per_mw: Optional[PerMwh] = None,
 ) -> Certificate:
     """The certificate of `hull certify`: how far the prices are from the best, in millionths, as the mixture bounds it.
 
-    The bound is of all prices that there may be. With a radius, in millionths per kilowatt from 0 to 20,000,000, it is of the prices that are
-    no farther from these. Raises `HullError` where the program refuses a file.
+    The bound is of all prices that there may be. With a radius, in millionths per kilowatt from 0 to 20,000,000, it is of the prices that differ
+    from these by at most that in each period: 1000 is 1.00 per MW. `radius_per_mw` is the same in the currency per MW and period, 0 to 20,000. Raises
+    `HullError` where the program refuses a file, where a radius is no such number, or where both are given.
     """
-    more = () if radius is None else ("--radius", str(whole_option("radius", radius, *RADIUS)))
-    return Hull(hull).certify(case, schedule, prices, mixture, *more)
+    return Hull(hull).certify(case, schedule, prices, mixture, radius=radius, radius_per_mw=radius_per_mw)

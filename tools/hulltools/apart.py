@@ -20,7 +20,7 @@ from multiprocessing import Pipe
 from multiprocessing.connection import Connection
 from typing import Any, Callable, Optional, TypeVar, cast
 
-from .errors import HullError, begun, told_with
+from .errors import ENDS, HullError, OverTime, begun, told_with
 from .options import seconds_option
 from .progress import pass_steps_on, step, turn_to
 
@@ -29,10 +29,6 @@ START = 120.0  # seconds that a Python may take until it is at work
 DIE_WITH_PARENT = 1  # PR_SET_PDEATHSIG of prctl
 CODE = "import sys, pickle; sys.path[:] = pickle.load(sys.stdin.buffer); from hulltools.apart import serve; serve()"
 Found = TypeVar("Found")
-
-
-class OverTime(HullError):
-    """A step took longer than was allowed."""
 
 
 def system_prctl() -> Optional[Callable[..., int]]:
@@ -54,7 +50,7 @@ def die_with_parent() -> None:
 
 def leave_signals() -> None:
     """The tool alone hears interrupts, and ends this process."""
-    for number in (signal.SIGINT, signal.SIGTERM):
+    for number in ENDS:
         signal.signal(number, signal.SIG_IGN)
     die_with_parent()
 
@@ -90,6 +86,23 @@ def worker_with(writer: Connection) -> Iterator[subprocess.Popen[bytes]]:
         yield worker
 
 
+def folder_here() -> str:
+    """The folder that the process is in; the top of the system's where that is gone."""
+    try:
+        return os.getcwd()
+    except OSError:
+        return os.sep
+
+
+FOLDER = folder_here()  # (when this package was found: a script may go elsewhere)
+PACKAGE = os.path.dirname(os.path.dirname(os.path.abspath(__file__)))
+
+
+def module_places() -> list[str]:
+    """Where modules are looked for, by whole names, so that the process finds what this one has found."""
+    return [*(os.path.join(FOLDER, place) for place in sys.path if isinstance(place, str)), PACKAGE]
+
+
 def run_apart(
     work: Callable[..., Found], given: tuple[object, ...], what: str, seconds: Optional[float] = None
 ) -> Found:
@@ -99,7 +112,7 @@ def run_apart(
         reader, writer = Pipe(duplex=False)
         with reader, worker_with(writer) as worker:
             writer.close()
-            hand_over(worker, pickle.dumps(sys.path) + pickle.dumps((work, given)))
+            hand_over(worker, pickle.dumps(module_places()) + pickle.dumps((work, given)))
             return cast(Found, answer(reader, worker, what, seconds))
 
 

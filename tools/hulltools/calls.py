@@ -1,7 +1,7 @@
 """What the command-line tools do, as calls. Cases, schedules, prices and zones are objects, dicts of the files' form, or names of files.
 
-Each raises `HullError`, in one line, where a file isn't in form or `hull` refuses it, where `hull` is called and isn't there, where SciPy is
-needed and isn't there, and where a step takes longer than it may. `hull` is the program's place; `seconds` limits
+Each raises `HullError`, in one line, where a file isn't in form or `hull` refuses it, where `hull` is called and isn't there, or where SciPy is
+needed and isn't there; and of its kinds `OverTime` where a step takes longer than it may, and `CannotBeMet` where a case has no schedule. `hull` is the program's place; `seconds` limits
 each step of a solver, 0 to 2,000,000.
 """
 from __future__ import annotations
@@ -13,11 +13,12 @@ import re
 import tempfile
 from typing import TYPE_CHECKING, Any, Callable, Dict, Iterator, List, Mapping, Optional, Sequence
 
-from .cases import TIME
-from .errors import HullError, Name
+from .cases import TIME, Case
+from .errors import HullError, Name, Tell
 from .inputs import (
     Given,
     GivenCase,
+    GivenPowers,
     GivenPrices,
     GivenSchedule,
     GivenZones,
@@ -26,17 +27,23 @@ from .inputs import (
     as_schedule,
     as_zones,
     content_of,
+    is_name,
     told,
+    with_price_lists,
 )
 from .linear import need_scipy
 from .numbers import millionths
+from .progress import told_to
 from .options import hint_of, number_option, seconds_option, told_value, whole_option
 from .outputs import Convex, Settlement
 from .prices import Prices
 from .program import Hull
+from .provenance import refuse_changed, sums_of_files
 from .fast_start import FastStart
 from .relaxation import fast_start_prices, held_prices, relaxed_prices
-from .scheduling import Made
+from .deviations import in_words
+from .external_schedules import as_followed, free_units, some, strangers
+from .scheduling import Made, follow
 from .search_limits import SECONDS, SearchLimits
 from .scheduling import make_schedule as search_schedule
 from .zones import Zonal
@@ -52,29 +59,60 @@ WORD = re.compile(r"(?<![^\s(])--([a-z][a-z-]*[a-z])\b")  # an option of a tool
 OWN_OPTIONS = ("schedule", "best_schedule", "prices", "zones", "hull", "help")  # of study.py, which are parameters here
 
 
-def quiet(text: object) -> None:
-    """Takes progress that nobody wants to hear of."""
-
-
 def make_schedule(
     case: GivenCase,
     gap: float = SearchLimits.gap,
     nodes: int = SearchLimits.nodes,
     seconds: Optional[float] = SECONDS,
     hull: Optional[Name] = None,
+    tell: Optional[Tell] = None,
 ) -> Made:
-    """A feasible schedule that `hull check` accepts, in `schedule`, with the solver's own `gap` as a share of its cost.
+    """A feasible schedule that `hull check` accepts, in `schedule`, with its `cost` in millionths and the solver's own `gap` as a share of its cost.
 
-    The search ends at a gap, or after so many nodes; `is_near` says whether it reached the gap. Raises `HullError` where the case can't be met,
-    and where no end is reached in `seconds`.
+    The search ends at a gap, or after so many nodes; `is_near` says whether it reached the gap. `tell` gets a line of what a long step does, each ten
+    seconds. Raises `CannotBeMet` where no schedule keeps the rules of the case, `OverTime` where no end is reached in `seconds`, and `HullError`
+    where a case's file is changed meanwhile.
     """
     limits = SearchLimits(
         number_option("gap", gap, 0), whole_option("nodes", nodes, 1, MOST_NODES), seconds_option(seconds)
     )
     need_scipy()
-    with told_of_a_call():
-        found = search_schedule(as_case(case), limits)
-    Hull(hull).check(case, found.schedule)
+    before = sums_of_files([os.fspath(case)]) if is_name(case) else {}
+    with told_to(tell):
+        with told_of_a_call():
+            found = search_schedule(as_case(case), limits)
+        found.checked_cost = Hull(hull, tell).check(case, found.schedule)
+    refuse_changed(before, "search and check are", "there is no schedule")
+    return found
+
+
+def follow_schedule(
+    case: GivenCase,
+    powers: GivenPowers,
+    seconds: Optional[float] = SECONDS,
+    hull: Optional[Name] = None,
+    tell: Optional[Tell] = None,
+) -> Made:
+    """A feasible schedule in whole kilowatts with the commitments of one in megawatts from elsewhere, as near to its powers as can be.
+
+    `powers` is a data frame with a row for each unit and period: the columns `unit`, `period` from 1 and `power`, and perhaps `on` and `reserve`.
+    It may be a dict of the form of a schedule's file, or a file's name, in megawatts all the same (make_schedule.py --follow); or a `Schedule`, or
+    what has one, as `Made`. What it hasn't is free, and of several schedules the cheapest is taken. `deviations` and `farthest_mw` of what is given
+    back say how far it is from these powers. `tell` gets what is free or skipped, and the same in words. Raises `CannotBeMet` where the case can't be
+    met with its commitments, with the unit and the period where one of them alone shows it; `OverTime` where a step takes longer than `seconds`; and
+    `HullError` where its form is another one, where it has nothing of a thermal unit, or where a power is most likely in kilowatts.
+    """
+    seconds = seconds_option(seconds)
+    need_scipy()
+    read, said = as_case(case), in_words_of_a_call(tell)
+    followed, name = as_followed(powers, read)
+    for names, is_so in ((free_units(followed, read), "are free"), (strangers(followed, read), "aren't in the case")):
+        if names:
+            said(f"{name}: {some(names)} {is_so}")
+    with told_to(tell):
+        found = follow(read, followed, name, seconds)
+        found.checked_cost = Hull(hull, tell).check(case, found.schedule)
+    said(in_words(found.deviations, name))
     return found
 
 
@@ -83,7 +121,7 @@ def lmp(
 ) -> Prices:
     """LMPs, in millionths per kilowatt: the duals of the dispatch with the schedule's commitments held.
 
-    Raises `HullError` where the schedule isn't feasible, and where the solver takes longer than `seconds`.
+    Raises `HullError` where the schedule isn't feasible, and `OverTime` where the solver takes longer than `seconds`.
     """
     seconds = seconds_option(seconds)
     need_scipy()
@@ -95,11 +133,12 @@ def lmp(
 def integer_relaxation(case: GivenCase, seconds: Optional[float] = SECONDS) -> Prices:
     """Prices in millionths per kilowatt: the duals of the commitment problem with on flags between 0 and 1.
 
-    Raises `HullError` where the case can't be met, and where the solver takes longer than `seconds`.
+    Raises `CannotBeMet` where the case can't be met, and `OverTime` where the solver takes longer than `seconds`.
     """
     seconds = seconds_option(seconds)
+    read = as_case(case)
     need_scipy()
-    return relaxed_prices(as_case(case), seconds)
+    return relaxed_prices(read, seconds)
 
 
 def elmp(
@@ -116,7 +155,7 @@ def elmp(
 
     Fast-start are the units that `fast_start` names, or else those of a minimum up time of at most `most_up` periods whose dearest start costs
     at most `most_cost`, in the currency. With `online_only` such a unit stays off where the schedule has it off. Raises `HullError` where the
-    case has no unit of a name, where the schedule isn't feasible, and where the solver takes longer than `seconds`.
+    case has no unit of a name, or where the schedule isn't feasible, and `OverTime` where the solver takes longer than `seconds`.
     """
     seconds, most_up = seconds_option(seconds), whole_option("most_up", most_up, 0, TIME)
     cost = None if most_cost is None else millionths(str(number_option("most_cost", most_cost, 0)))
@@ -139,8 +178,9 @@ def convex_prices(
 ) -> Convex:
     """The text of `hull convex`: `prices`, their settlement, and the `mixture` that proves how far they are from the best, in `distance`.
 
-    The search ends at a distance `within`, in the currency, or after so many rounds; what is left out is as the program has it. Raises `HullError`
-    where the program refuses a file, and where it takes longer than `seconds`.
+    The search ends at a distance `within`, in the currency, or after so many rounds, or at a millionth of the dual value; what is left out is as the
+    program has it. `is_near` says whether the distance is at most `within`. Raises `HullError` where the program refuses a file, and `OverTime`
+    where it takes longer than `seconds`.
     """
     return Hull(hull, seconds=seconds).convex(case, schedule, within, rounds)
 
@@ -162,6 +202,16 @@ def settle_zones(case: GivenCase, schedule: GivenSchedule, zones: GivenZones, hu
 def in_a_call(text: str) -> str:
     """A text of a tool in the words of a call: `seconds` in place of --seconds."""
     return WORD.sub(lambda found: f"`{found[1].replace('-', '_')}`", text)
+
+
+def in_words_of_a_call(tell: Optional[Tell]) -> Tell:
+    """A function that gets what a tool says, in the words of a call, and hands it to the one that is given; None hears nothing."""
+
+    def said(text: object) -> None:
+        if tell is not None:
+            tell(in_a_call(str(text)))
+
+    return said
 
 
 @contextlib.contextmanager
@@ -248,6 +298,21 @@ class Room:
         return text
 
 
+def named_prices(given: Optional[Mapping[str, GivenPrices]], case: Case) -> Dict[str, Prices]:
+    """Price lists by name, for a case; what is none is told with its name."""
+    if given is not None and not isinstance(given, Mapping):
+        raise HullError(f"prices is a dict of price lists by name, and no `{type(given).__name__}` can be that")
+    found = {}
+    for name, prices in (given or {}).items():
+        try:
+            found[name] = as_prices(prices, case)
+        except HullError as why:
+            what, named = told("prices"), f"the prices {name} given"
+            why.line, why.sentence = why.line.replace(what, named), why.sentence.replace(what, named)
+            raise
+    return found
+
+
 def study(
     case: GivenCase,
     schedule: Optional[GivenSchedule] = None,
@@ -256,15 +321,17 @@ def study(
     zones: Optional[GivenZones] = None,
     best_schedule: Optional[GivenSchedule] = None,
     hull: Optional[Name] = None,
+    tell: Optional[Tell] = None,
     **options: object,
 ) -> Study:
     """The study of a case, whose page and tables go to the folder where one is given; `frames()` has its tables.
 
     Without a schedule one is made. `prices` are further lists by name; the options are those of study.py, as `title="1 July"`, `skip=["elmp"]` or
-    `fast_start_up=2`. A list that takes too long is left out, and told in `notes`. Raises `HullError` where there is no such option, where a file
+    `fast_start_up=2`. `tell` gets a line for each list, and of what a long step does. A list that takes too long is left out, and told in `notes`. Raises `HullError` where there is no such option, where a file
     isn't in form or is refused, and where no list was made; `KeyboardInterrupt` at an interrupt, after the folder got the lists that were there.
     """
     need_scipy()
+    said = in_words_of_a_call(tell)
     from .commands.study import arguments, inputs_of, study_of, write_results
     from .study_folder import StudyFolder
 
@@ -277,16 +344,18 @@ def study(
             best = room.name_of("schedule", best_schedule, "the best schedule given", "best-schedule")
             words.append(f"--best-schedule={best}")
         if zones is not None:
-            words.append(f"--zones={room.name_of('zones', zones)}")
-        for place, (name, given_prices) in enumerate((prices or {}).items()):
-            exact, told_as = as_prices(given_prices, read), f"the prices {name} given"
+            given_zones = with_price_lists(zones, read) if isinstance(zones, dict) else zones
+            words.append(f"--zones={room.name_of('zones', given_zones)}")
+        for place, (name, exact) in enumerate(named_prices(prices, read).items()):
+            told_as = f"the prices {name} given"
             words.append(f"--prices={name}={room.name_of('prices', exact, told_as, f'{place}.prices')}")
         words += [f"--hull={os.fspath(hull)}"] if hull else []
         words = [room.name_of("case", case), to, *words]
         with told_of_a_call():
             asked = asked_of(arguments, words, options)
-        with told_of_a_call(), room.told(), StudyFolder(to, inputs_of(asked)) as place_of:
-            found = study_of(asked, words, Hull(hull, seconds=asked.seconds), place_of.room, quiet, place_of.refuse)
+        program = Hull(hull, tell, asked.seconds)
+        with told_to(tell), told_of_a_call(), room.told(), StudyFolder(to, inputs_of(asked)) as place_of:
+            found = study_of(asked, words, program, place_of.room, said, place_of.refuse)
             if folder:
                 write_results(found, place_of.room)
                 place_of.place(found.unfinished)

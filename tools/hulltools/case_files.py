@@ -3,14 +3,14 @@ from collections.abc import Iterable, Mapping, Sequence
 from dataclasses import replace
 from decimal import Decimal
 from fractions import Fraction
-from typing import Any
+from typing import Any, Optional
 
 from .case_forms import need_form
 from .cases import Bid, Case, Factor, Renewable, Thermal
-from .errors import HullError, one_line
+from .errors import HullError, is_tool_at_work, one_line
 from .json_texts import json_text
 from .numbers import Kilowatts, Millionths, decimal_text
-from .options import hint_of, is_flag, is_list, told_value
+from .options import hint_of, is_flag, is_list, member, told_value
 
 
 def megawatts(number: int) -> Decimal:
@@ -119,11 +119,25 @@ def scaled(case: Case, demand: Factor, renewable: Factor, offers: Mapping[str, F
     return replace(case, demand=scaled_powers(case.demand, factor_of(demand, "demand")), thermal=units, renewable=winds)
 
 
-def without(case: Case, names: Sequence[str]) -> Case:
-    need_units(case, names)
+def kind_meant(case: Case, name: str, kind: Optional[str]) -> str:
+    """The kind of the unit or bid that is meant. A name that two kinds have is refused without it: a buyer is no unit's outage."""
+    need_units(case, [name])
+    if kind is not None:
+        member({(known, unit.name): unit for known, unit in case.units}, kind, name, "the case")
+        return kind
+    kinds = [known for known, unit in case.units if unit.name == name]
+    if len(kinds) > 1:
+        told = one_line(name)
+        way = f"--outage {kinds[0]}:{told}" if is_tool_at_work() else f'without("{told}", kind="{kinds[0]}")'
+        raise HullError(f'the case has a {" and a ".join(kinds)} "{told}": give the kind too, as {way}')
+    return kinds[0]
+
+
+def without(case: Case, names: Sequence[str], kind: Optional[str] = None) -> Case:
+    left = {(kind_meant(case, name, kind), name) for name in names}
     return replace(
         case,
-        thermal=[unit for unit in case.thermal if unit.name not in names],
-        renewable=[unit for unit in case.renewable if unit.name not in names],
-        bids=[bid for bid in case.bids if bid.name not in names],
+        thermal=[unit for unit in case.thermal if ("thermal", unit.name) not in left],
+        renewable=[unit for unit in case.renewable if ("renewable", unit.name) not in left],
+        bids=[bid for bid in case.bids if ("bid", bid.name) not in left],
     )

@@ -1,34 +1,42 @@
 """Whether the members of a case that a script has changed are whole numbers, as kilowatts and millionths are."""
 from __future__ import annotations
 
-import operator
 from collections.abc import Iterator
-from typing import Any, Optional
+from dataclasses import replace
+from typing import Any, Optional, TypeVar
 
 from .cases import Bid, Case, Renewable, Thermal
 from .errors import HullError, one_line
-from .options import float_of, is_flag, is_list, told_value
+from .options import counted, is_list, is_whole_number, told_value
 
 KILOWATTS, MILLIONTHS = "kilowatts", "millionths"
 PER_KILOWATT = "millionths per kilowatt"
 POWERS = ("least", "most", "ramp_up", "ramp_down", "start_limit", "stop_limit", "power0")
 COUNTS = ("must_run", "min_up", "min_down", "on0", "up0", "down0")
+Whole = TypeVar("Whole", Case, Thermal, Renewable, Bid)
 Found = tuple[str, Any, str, Optional[int]]  # a member, its number, the unit of that, and the period
-
-
-def is_whole_number(number: Any) -> bool:
-    """Whether a number has a whole value, as 8000 and 8000.0 have."""
-    try:
-        operator.index(number)
-    except TypeError:
-        return float_of(number) is not None and not isinstance(number, str) and bool(number == int(number))
-    return not is_flag(number)
 
 
 def items_at(name: str, numbers: Any) -> list[Any]:
     if not is_list(numbers):
         raise HullError(f"{name} is {told_value(numbers)}: a list is due")
     return list(numbers)
+
+
+def need_length(name: str, numbers: Any, periods: int) -> None:
+    """Refuses a list that hasn't an item for each period."""
+    length = len(items_at(name, numbers))
+    if length != periods:
+        raise HullError(f"{name} has {counted(length, 'item')}, and the case {counted(periods, 'period')}")
+
+
+def need_lengths(where: str, lists: dict[str, Any], periods: int, unit: Optional[str] = None) -> None:
+    """Refuses lists, by what they are called, that haven't an item for each period."""
+    try:
+        for name, numbers in lists.items():
+            need_length(name, numbers, periods)
+    except HullError as why:
+        raise HullError(f"{where}: {why.line}", unit=unit) from None
 
 
 def by_period(name: str, numbers: Any) -> Iterator[Found]:
@@ -77,8 +85,11 @@ def need_whole(where: str, numbers: Iterator[Found], unit: Optional[str] = None)
         raise HullError(f"{where}: {why.line}", unit=unit, period=period) from None
 
 
+LISTS: dict[type, tuple[str, ...]] = {Thermal: ("marks",), Renewable: ("least", "most"), Bid: ("blocks",)}  # by period
+
+
 def need_form(case: Case) -> None:
-    """Refuses a case with a number that isn't whole, as 1.5 kilowatts."""
+    """Refuses a case with a number that isn't whole, as 1.5 kilowatts, or a list that hasn't an item for each period."""
 
     def of_case() -> Iterator[Found]:
         yield "periods", case.periods, "", None
@@ -86,5 +97,28 @@ def need_form(case: Case) -> None:
         yield from by_period("reserves", case.reserves)
 
     need_whole("the case given", of_case())
+    need_lengths("the case given", {"demand": case.demand, "reserves": case.reserves}, case.periods)
     for kind, unit in case.units:
-        need_whole(f'the case given: {kind} "{one_line(str(unit.name))}"', members_of(unit), unit.name)
+        where = f'the case given: {kind} "{one_line(str(unit.name))}"'
+        need_whole(where, members_of(unit), unit.name)
+        need_lengths(where, {name: getattr(unit, name) for name in LISTS.get(type(unit), ())}, case.periods, unit.name)
+
+
+def list_of(items: Any) -> list[Any]:
+    """The items by their places; numbers, which `need_form` has found whole, are plain."""
+    return [it if it is None or is_list(it) else int(it) for it in items]
+
+
+def unit_with_lists(holder: Whole) -> Whole:
+    """A case or a unit with lists where a script has set arrays or series; itself where it has lists."""
+    names = LISTS.get(type(holder), ("demand", "reserves"))
+    other = {name: getattr(holder, name) for name in names if not isinstance(getattr(holder, name), list)}
+    return replace(holder, **{name: list_of(items) for name, items in other.items()}) if other else holder
+
+
+def with_lists(case: Case) -> Case:
+    """The case with lists where a script has set arrays or series, whose items have places and perhaps an index of their own."""
+    units: dict[str, list[Any]] = {kind: getattr(case, kind) for kind in ("thermal", "renewable", "bids")}
+    changed = {kind: [unit_with_lists(unit) for unit in given] for kind, given in units.items()}
+    same = all(new is old for kind, given in units.items() for new, old in zip(changed[kind], given))
+    return unit_with_lists(case if same else replace(case, **changed))

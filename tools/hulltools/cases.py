@@ -4,7 +4,7 @@ from dataclasses import dataclass, field
 from decimal import Decimal
 from typing import Any, Optional, TypeVar, Union
 
-from .json_texts import is_number, read_json
+from .json_texts import is_number, read_json, refused_as
 from .numbers import (
     PRICE_LIMIT,
     Kilowatts,
@@ -17,6 +17,7 @@ from .numbers import (
     price,
 )
 from .errors import HullError, Name, one_line, write_whole
+from .options import FieldsAlone, member
 
 POWER, OUTPUT, COST, TIME = 10**9, 10**7, 10**13, 10**6
 Lag = tuple[int, Millionths]  # periods off, and what a start costs then
@@ -28,7 +29,7 @@ MOST_PERIODS, MOST_OF_A_KIND, MOST_ITEMS, MOST_BLOCKS = 168, 4096, 32, 8
 
 
 @dataclass
-class Thermal:
+class Thermal(FieldsAlone):
     """A thermal unit. `lags` are (periods, millionths), `points` (kilowatts, millionths), `marks` None, 0 or 1."""
 
     name: str
@@ -79,7 +80,7 @@ class Thermal:
 
 
 @dataclass
-class Renewable:
+class Renewable(FieldsAlone):
     """A renewable unit: its least and greatest power of each period, in kilowatts."""
 
     name: str
@@ -88,7 +89,7 @@ class Renewable:
 
 
 @dataclass
-class Bid:
+class Bid(FieldsAlone):
     """A demand bid: for each period blocks of (kilowatts, millionths per kilowatt), the dearest first."""
 
     name: str
@@ -99,7 +100,7 @@ Unit = Union[Thermal, Renewable, Bid]
 
 
 @dataclass(repr=False)
-class Case:
+class Case(FieldsAlone):
     """Demand and required reserve of each period in kilowatts, and the units and bids in the file's order."""
 
     periods: int
@@ -120,6 +121,13 @@ class Case:
             ("renewable", unit) for unit in self.renewable
         )
         return [*thermal, *renewable, *(("bid", bid) for bid in self.bids)]
+
+    def unit(self, kind: Optional[str] = None, name: Optional[str] = None) -> Unit:
+        """A unit or bid by its kind, `thermal`, `renewable` or `bid`, and its name, or by its name alone where one kind has it.
+
+        Raises `HullError` where there is none.
+        """
+        return member({(known, unit.name): unit for known, unit in self.units}, kind, name, "the case")
 
     def text(self) -> str:
         """The case as its file."""
@@ -143,11 +151,14 @@ class Case:
 
         return scaled(self, demand, renewable, {} if offers is None else offers)
 
-    def without(self, *names: str) -> "Case":
-        """The case without these units and bids. Raises `HullError` where it has none of a name."""
+    def without(self, *names: str, kind: Optional[str] = None) -> "Case":
+        """The case without these units and bids, of a kind `thermal`, `renewable` or `bid` where one is given.
+
+        Raises `HullError` where it has none of a name, or where two kinds have the name and no kind is given.
+        """
         from .case_files import without
 
-        return without(self, names)
+        return without(self, names, kind)
 
 
 class Fields:
@@ -283,6 +294,7 @@ def read_bid(name: str, bid: Fields, periods: int) -> Bid:
     return Bid(name, [read_blocks(bid, *it) for it in bid.items("blocks", length=periods)])
 
 
+@refused_as("case")
 def case_of(name: Name, value: Any) -> Case:
     """The case of a JSON value."""
     whole = Fields(name, "the case", value)
@@ -297,9 +309,13 @@ def case_of(name: Name, value: Any) -> Case:
     return case
 
 
-def read_case(name: Name) -> Case:
-    """The case of a file: powers in kilowatts, costs in millionths of the currency, lists with an item for each period.
+def read_case(name: Union[Name, dict[str, Any]]) -> Case:
+    """The case of a file, or of a dict as the file has it: powers in kilowatts, costs in millionths of the currency, lists with an item for each period.
 
     Raises `HullError` where the file can't be read, or where docs/FORMATS.md refuses it, with the place of what is wrong.
     """
+    if isinstance(name, dict):
+        from .inputs import as_case
+
+        return as_case(name)
     return case_of(name, read_json(name, "a case"))

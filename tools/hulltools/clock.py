@@ -5,6 +5,9 @@ from decimal import Decimal
 from fractions import Fraction
 from typing import List, Optional
 
+from .day_lengths import IN_PARTS, changed_day, length_on_change
+from .errors import HullError
+
 THOUSANDTHS = 1000
 
 
@@ -37,9 +40,28 @@ class Clock:
         exact = self.price(millionths)
         return (Decimal(exact.numerator) / exact.denominator).quantize(Decimal("1e-9")).normalize() + Decimal(0)
 
+    def need_length(self, periods: int) -> None:
+        """Refuses a start without the length of a period where so many are most likely no hours."""
+        if self.start is not None and self.hours is None and periods in IN_PARTS:
+            what = changed_day(periods) or "a day of quarter hours"
+            raise HullError(f"--start needs --hours-per-period here: {periods} periods may be {what}")
+
+    def why_unknown(self, periods: int) -> str:
+        """In a sentence why the hours aren't known though the start is; empty where they are.
+
+        Where clocks change within the periods only an offset from UTC says which hour is which.
+        """
+        if self.start is None or self.start.tzinfo or length_on_change(periods) != (self.hours or 1):
+            return ""
+        example = f"{self.start.isoformat(timespec='minutes')}+02:00"
+        return (
+            f"Periods have numbers and no hours: {periods} of them are {changed_day(periods)}. "
+            f"A start with its offset from UTC, as {example}, gives them hours of that offset."
+        )
+
     def times(self, periods: int) -> List[str]:
         """The beginning of each period; an empty text where it isn't known."""
-        if self.start is None:
+        if self.start is None or self.why_unknown(periods):
             return [""] * periods
         length = timedelta(seconds=float((self.hours or 1) * 3600))
         return [(self.start + t * length).isoformat(timespec="minutes") for t in range(periods)]
@@ -52,6 +74,8 @@ class Clock:
         """What stands beside a period in a table for people."""
         return [it.replace("T", " ") or str(t) for t, it in enumerate(self.times(periods), 1)]
 
-    @property
-    def axis(self) -> str:
-        return "period" if self.start is None else "beginning of the period"
+    def axis(self, periods: int) -> str:
+        if self.start is None or self.why_unknown(periods):
+            return "period"
+        offset = f", {self.start.tzname()}" if self.start.tzinfo else ""
+        return f"beginning of the period{offset}"

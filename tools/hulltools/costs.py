@@ -1,9 +1,9 @@
 """What a schedule costs, by the definitions of docs/DEFINITIONS.md, in millionths."""
 from __future__ import annotations
 
-from collections.abc import Iterable, Sequence
+from collections.abc import Iterable
 
-from .cases import Block, Point, Thermal
+from .cases import Block, Thermal
 from .numbers import Kilowatts, Millionths
 from .schedules import Plan
 

@@ -1,6 +1,7 @@
 """How many periods a day has, also on the two days of the year on which clocks change."""
 from __future__ import annotations
 
+from fractions import Fraction
 from typing import Dict, Optional, Tuple
 
 # Periods, with those of the same stretch of time where no clock changes, and what it is.
@@ -17,10 +18,17 @@ CHANGED: Dict[int, Tuple[int, str]] = {
     169: (168, "a week of hours, in which clocks go back"),
 }
 
+IN_PARTS = (46, 50, 92, 96, 100)  # periods of a day that is most likely in half hours or quarter hours
+
 
 def is_usual(periods: int) -> bool:
     """Whether so many periods are whole days of hours, half hours or quarter hours."""
     return periods > 0 and periods % 24 == 0
+
+
+def length_on_change(periods: int) -> Optional[Fraction]:
+    """How long a period is in hours, where so many are the stretch of a clock change; None where they are none."""
+    return Fraction(1, abs(periods - CHANGED[periods][0])) if periods in CHANGED else None
 
 
 def changed_day(periods: int) -> Optional[str]:

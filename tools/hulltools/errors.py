@@ -3,6 +3,7 @@ from __future__ import annotations
 
 import contextlib
 import csv
+import io
 import os
 import signal
 import stat
@@ -10,7 +11,8 @@ import subprocess
 import sys
 import tempfile
 import threading
-from collections.abc import Callable, Iterator, Mapping, Sequence
+from collections.abc import Callable, Iterator, Sequence
+from dataclasses import dataclass
 from types import FrameType
 from typing import Any, BinaryIO, Optional, Union, cast
 
@@ -19,17 +21,20 @@ from .telling import Teller
 from .telling import one_line as one_line
 
 Name = Union[str, "os.PathLike[str]"]  # a file's
+Handler = Union[Callable[[int, Optional[FrameType]], None], signal.Handlers]  # of a signal
 Tell = Callable[[object], None]  # what is told to the user goes there, line by line
 MOST_LINKS = 40  # (as many as the system follows)
 MOST_SHOWN = 300  # characters of a name; a longer one is no file's
 UNREADABLE = 2  # the status of the program where a file can't be read
+TOO_LARGE = 32  # the code of a file that has too many bytes
 
 
 class HullError(Exception):
     """What is to be told to the user: in `sentence` as people say it, and in `line` as a tool does.
 
-    The two differ where the program refused something: `line` then has its fault line, and `status`, `code`, `unit` and `period` are parts of
-    it. Each of these four is None where it isn't known. As a text the error is the sentence, with such a line behind it.
+    The two differ where the program refused something, or a reader a file that is no JSON text: `line` then has the fault line, and `status`,
+    `code`, `unit`, `period`, `at_byte` (from 0) and `at_line` (from 1) are parts of it. Each of these six is None where it isn't known. As a text
+    the error is the sentence, with such a line behind it.
     """
 
     def __init__(
@@ -40,13 +45,28 @@ class HullError(Exception):
         unit: Optional[str] = None,
         period: Optional[int] = None,
         sentence: Optional[str] = None,
+        at_byte: Optional[int] = None,
+        at_line: Optional[int] = None,
     ) -> None:
         super().__init__(text)
         self.line, self.sentence = text, sentence or text
         self.status, self.code, self.unit, self.period = status, code, unit, period
+        self.at_byte, self.at_line = at_byte, at_line
 
     def __str__(self) -> str:
         return self.sentence if self.line in self.sentence else f"{self.sentence} ({self.line})"
+
+
+class NoOutput(HullError):
+    """Standard output is closed, so nothing can be said."""
+
+
+class OverTime(HullError):
+    """A step of a solver or of the program took longer than it may."""
+
+
+class CannotBeMet(HullError):
+    """No schedule of the case keeps its rules; `period` and `unit` say where, as far as one period or one unit shows it."""
 
 
 class NotOurs(HullError):
@@ -66,7 +86,7 @@ class Interrupted(KeyboardInterrupt):
         return 128 + self.number
 
 
-ENDS = (signal.SIGINT, signal.SIGTERM)
+ENDS = (signal.SIGINT, signal.SIGTERM, signal.SIGHUP)
 
 
 class Found:
@@ -84,9 +104,14 @@ class Heard:
 
 def interrupt(number: int, _: Optional[FrameType]) -> None:
     """Interrupts what is at work; the next such signal ends the process at once, or the one behind it where something was found."""
-    hear_interrupts(let_go if Found.is_there else signal.SIG_DFL)
+    hear_others(number, let_go if Found.is_there else signal.SIG_DFL)
     Heard.number = number if Heard.is_kept else None
     raise Interrupted(number)
+
+
+def is_tool_at_work() -> bool:
+    """Whether a command-line tool runs here, whose words are what can be done about a fault, and not a script of somebody's."""
+    return Heard.is_kept
 
 
 def raise_swallowed() -> None:
@@ -103,14 +128,26 @@ def taken(why: KeyboardInterrupt) -> Interrupted:
 
 def let_go(number: int, _: Optional[FrameType]) -> None:
     """Hears nothing, but the next such signal ends the process at once."""
-    hear_interrupts(signal.SIG_DFL)
+    hear_others(number, signal.SIG_DFL)
 
 
-def hear_interrupts(by: Union[Callable[[int, Optional[FrameType]], None], signal.Handlers] = interrupt) -> None:
-    """Has the signals that end a tool handled so."""
+def pass_over(number: int, _: Optional[FrameType]) -> None:
+    """Hears nothing."""
+
+
+def hear_interrupts(by: Handler = interrupt) -> None:
+    """Has the signals that end a tool handled so, but for SIGHUP where `nohup` keeps it from the tool."""
     for number in ENDS:
-        with contextlib.suppress(ValueError):  # (a thread that isn't the first one can't)
-            signal.signal(number, by)
+        if number != signal.SIGHUP or signal.getsignal(number) is not signal.SIG_IGN:
+            with contextlib.suppress(ValueError):  # (a thread that isn't the first one can't)
+                signal.signal(number, by)
+
+
+def hear_others(number: int, by: Handler) -> None:
+    """Has those behind a first one handled so. Of a terminal that is closed the shell and the system both tell: the second is passed over."""
+    hear_interrupts(by)
+    if number == signal.SIGHUP:
+        signal.signal(number, pass_over)
 
 
 @contextlib.contextmanager
@@ -122,7 +159,7 @@ def heard_later() -> Iterator[None]:
     heard: list[int] = []
 
     def note(number: int, _: Optional[FrameType]) -> None:
-        hear_interrupts(signal.SIG_DFL)
+        hear_others(number, signal.SIG_DFL)
         heard.append(number)
 
     hear_interrupts(note)
@@ -165,7 +202,21 @@ def begun(line: Sequence[str], **how: Any) -> Iterator[subprocess.Popen[bytes]]:
         yield process
 
 
-def run_tool(tool: str, body: Callable[[list[str], Tell], Optional[int]], words: Optional[Sequence[str]]) -> int:
+@dataclass(frozen=True)
+class Ends:
+    """The statuses of a tool that can't do its work: it was refused, its output can't be written, or there is no memory."""
+
+    refused: int = 1
+    no_output: int = 1
+    no_memory: int = 1
+
+
+def run_tool(
+    tool: str,
+    body: Callable[[list[str], Tell], Optional[int]],
+    words: Optional[Sequence[str]],
+    ends: Ends = Ends(),
+) -> int:
     """Runs a tool over its words, or those of the process, to its exit status; each trouble is told in one line.
 
     An interrupt ends what is at work, and the process by the signal, unless the tool returns with what it has.
@@ -185,21 +236,25 @@ def run_tool(tool: str, body: Callable[[list[str], Tell], Optional[int]], words:
         return 2
     except HullError as why:
         tell(why.line)
+        return ends.no_output if isinstance(why, NoOutput) else ends.refused
     except Interrupted as why:
         end_by_signal(taken(why).number)
     except BrokenPipeError:
         tell("nobody reads the output")
         forget_output()
+        return ends.no_output
     except OSError as error:
         tell(f"{error.filename or 'standard output'}: {error.strerror or error}")
         forget_output()
+        return ends.refused if error.filename else ends.no_output
     except MemoryError:
         tell("no memory")
+        return ends.no_memory
     except UnicodeEncodeError:
         tell("a name that is given can't be written in UTF-8")
     finally:
         Heard.is_kept, Heard.number = False, None
-    return 1
+    return ends.refused
 
 
 def hold_standard_files() -> None:
@@ -237,16 +292,43 @@ def forget_output() -> None:
 def need_output() -> None:
     """Refuses a standard output that is closed, before anything is done."""
     if sys.stdout is None:
-        raise HullError("standard output is closed")
+        raise NoOutput("standard output is closed")
 
 
-@contextlib.contextmanager
-def rows_told_with(name: str) -> Iterator[None]:
-    """Tells what the reader of tables refuses with the name of the file."""
-    try:
-        yield
-    except csv.Error as why:
-        raise HullError(f"{name}: no table of comma separated values: {why}") from None
+def rows_in(text: str, name: str, delimiter: str = ",") -> Iterator[tuple[int, list[str]]]:
+    """The rows of a table, each with the line that it begins on; a quote without an end would swallow the rows behind it, and is refused."""
+    reader = csv.reader(io.StringIO(text, newline=""), delimiter=delimiter, strict=True)
+    while True:
+        line = reader.line_num + 1
+        try:
+            cells = next(reader)
+        except StopIteration:
+            return
+        except csv.Error as why:
+            what = "a quote is without an end" if "unexpected end" in str(why) else why
+            raise HullError(f"{name}, line {line}: no row of comma separated values: {what}") from None
+        yield line, cells
+
+
+def named_rows(text: str, name: str) -> tuple[list[str], list[tuple[int, dict[str, str]]]]:
+    """The columns that the first line names, and the rows behind it with their lines; rows without a cell are passed over."""
+    rows = rows_in(text, name)
+    columns: list[str] = next((cells for _, cells in rows), [])
+    refuse_twice_named(columns, name)
+    found = []
+    for line, cells in (row for row in rows if row[1]):
+        if len(cells) > len(columns):
+            raise HullError(
+                f"{name}, line {line}: it has more cells than the first line names columns. Is a decimal comma in it?"
+            )
+        found.append((line, dict(zip(columns, [*cells, *[""] * (len(columns) - len(cells))]))))
+    return columns, found
+
+
+def refuse_line_end(cell: str, where: str) -> None:
+    """Refuses a cell of several lines, which are often rows that a quote has swallowed."""
+    if "\n" in cell or "\r" in cell:
+        raise HullError(f"{where}: a line's end stands in a cell. Is a quote too many in it?")
 
 
 def refuse_twice_named(columns: Optional[Sequence[str]], name: str) -> None:
@@ -254,12 +336,6 @@ def refuse_twice_named(columns: Optional[Sequence[str]], name: str) -> None:
     twice = next((it for place, it in enumerate(columns or ()) if it in (columns or ())[:place]), None)
     if twice is not None:
         raise HullError(f"{name}: the column {one_line(twice)!r} stands twice")
-
-
-def refuse_more_cells(row: Mapping[Optional[str], object], where: str) -> None:
-    """Refuses a row that has more cells than there are columns, as a reader of tables has it."""
-    if None in row:
-        raise HullError(f"{where}: it has more cells than the first line names columns. Is a decimal comma in it?")
 
 
 def read_bytes(name: Name, what: str, most: int = 67_108_864, begins: bytes = b"") -> bytes:
@@ -280,7 +356,7 @@ def read_bytes(name: Name, what: str, most: int = 67_108_864, begins: bytes = b"
     except ValueError:
         raise HullError(f"{shown_name(name)}: this can't be the name of a file", status=UNREADABLE) from None
     if len(data) > most:
-        raise HullError(f"{shown_name(name)}: {what} has at most {most:,} bytes")
+        raise HullError(f"{shown_name(name)}: {what} has at most {most:,} bytes", code=TOO_LARGE)
     return data
 
 

@@ -1,7 +1,6 @@
 """A fault of the form of a schedule or of a mixture, in words."""
 import difflib
 import json
-from collections.abc import Sequence
 from dataclasses import dataclass
 from typing import Any, Optional
 

@@ -1,7 +1,7 @@
 """A fault line of `hull` as a sentence: which file and unit, what was found there, and what is due."""
 import re
 from collections.abc import Callable
-from typing import Any, Optional, Union
+from typing import Any, Union
 
 from .fault_hints import hint_of_items, place_in_words, remedy
 from .fault_rules import told_rule
@@ -112,7 +112,7 @@ def known_mistake(files: Files, what: str, place: int) -> str:
     told = next((it for mark, it in BEGINNINGS.items() if data.startswith(mark) and not place), None)
     if files.is_empty(what):
         told = "the file is empty"
-    elif data and (is_open_string(data, place) or re.compile(rb"[-+.\w]*").fullmatch(data, place)):
+    elif data and (is_open_string(data, place) or re.compile(rb"[-+.\w]*").fullmatch(data, min(place, len(data)))):
         told = "the file ends there"
     elif re.search(rb"\d,\s*\Z", before(data, place)) and data[place : place + 1].isdigit():
         told = "a decimal comma? Numbers have a point"
@@ -271,7 +271,7 @@ def of_others(at: str) -> str:
 
 def told_report(files: Files, at: str, what: str, more: str = "") -> str:
     lines = files.bytes_of("report").split(b"\n")
-    line = lines[int(at) - 1].decode("utf-8", "replace") if int(at) <= len(lines) else ""
+    line = lines[int(at) - 1].decode("utf-8", "replace") if 1 <= int(at) <= len(lines) else ""
     found = f" Found: {line[:160]!r}." if line else ""
     if line.endswith("\r"):
         found += " Carriage returns were put in since it was printed."

@@ -1,7 +1,7 @@
 """Which units keep a case, or given commitments of it, from being met."""
 from __future__ import annotations
 
-from typing import Iterator, List
+from typing import Iterator, List, NamedTuple, Optional
 
 from .cases import Case, Thermal
 from .fault_rules import RULES
@@ -39,7 +39,15 @@ def flag_breaches(unit: Thermal, on: List[int]) -> Iterator[Breach]:
         yield 50, 0, unit.power0, unit.stop_cap
 
 
-def why_flags(case: Case, flags: List[List[int]]) -> str:
+class Barred(NamedTuple):
+    """Why commitments can't be met, and the unit and the period, from 1, where one of them alone shows it."""
+
+    sentence: str
+    unit: Optional[str] = None
+    period: Optional[int] = None
+
+
+def why_flags(case: Case, flags: List[List[int]]) -> Barred:
     """Which rule of which unit the commitments break; where none, what is left."""
     state = {0: "off", 1: "on"}
     for unit, on in zip(case.thermal, flags):
@@ -48,5 +56,5 @@ def why_flags(case: Case, flags: List[List[int]]) -> str:
             code, period, left, right = found
             known = dict(who=called("thermal", unit.name), period=period, left=left, right=right)
             known.update(left_is=state.get(left, left), right_is=state.get(right, right))
-            return str(RULES[code].format_map(Known(known)))
-    return "each unit may be on and off as they say, but ramps, balance or reserve can't be kept with them"
+            return Barred(str(RULES[code].format_map(Known(known))), unit.name, period or None)
+    return Barred("each unit may be on and off as they say, but ramps, balance or reserve can't be kept with them")

@@ -10,19 +10,20 @@ from decimal import Decimal
 from fractions import Fraction
 from typing import TYPE_CHECKING, Any, Optional, Protocol, SupportsFloat, Union, cast, overload
 
-from .case_forms import need_form
+from .case_forms import need_form, with_lists
 from .cases import Case, case_of, read_case
 from .errors import HullError, Name, one_line
-from .json_texts import Refused, json_text, parse
+from .json_texts import STATUS, Refused, json_text, parse, refused_as
 from .lint_keys import KEYS
 from .mixtures import Mixture
 from .numbers import PRICE_LIMIT, MillionthsPerKilowatt
 from .options import counted, float_of, hint_of, is_list, items_of, number_option, told_value
 from .prices import FlatPrices, Prices, PriceSource, prices_of, read_prices
 from .schedules import Schedule, read_schedule, schedule_of
-from .zones import Zones, read_zones, zones_of
+from .zones import PRICES_KEYS, ZONES_KEYS, Zones, read_zones, zones_of
 
 if TYPE_CHECKING:
+    from pandas import DataFrame
     from typing_extensions import TypeGuard  # (in `typing` from Python 3.10 on)
 
 
@@ -35,7 +36,7 @@ class HasSchedule(Protocol):
 
 
 class HasPrices(Protocol):
-    """An object with prices: a `Convex`, a `Settlement` or a `Report`."""
+    """An object with prices: a `Convex`, a `Settlement`, a `Report` or a list of a study."""
 
     @property
     def prices(self) -> Prices:
@@ -55,12 +56,14 @@ GivenSchedule = Union[Schedule, HasSchedule, dict[str, Any], Name]
 GivenPrices = Union[Prices, FlatPrices, PriceSource, HasPrices, dict[str, Any], Name]
 GivenMixture = Union[Mixture, HasMixture, dict[str, Any], Name]
 GivenZones = Union[Zones, dict[str, Any], Name]
+GivenPowers = Union["DataFrame", Schedule, HasSchedule, dict[str, Any], Name]  # a schedule in megawatts from elsewhere
 Given = Union[GivenCase, GivenSchedule, GivenPrices, GivenMixture, GivenZones]
 PerMwh = Union[SupportsFloat, str]  # a price in the currency per MWh, where a period is an hour
 KINDS: dict[str, type] = {"case": Case, "schedule": Schedule, "prices": Prices, "mixture": Mixture, "zones": Zones}
 KEYS_GIVEN: dict[str, dict[Any, list[str]]] = {
     **cast(Any, KEYS),
-    "zones": {(): ["zones", "units", "default"], ("zones", "*"): ["energy", "reserve"]},
+    "powers": cast(Any, KEYS["schedule"]),
+    "zones": {(): ZONES_KEYS, ("zones", "*"): PRICES_KEYS},
 }
 FEWEST, MOST = 1e-9, 1e9  # between which a number is taken as it is written
 
@@ -128,7 +131,7 @@ def place_of(what: str, path: tuple[Any, ...]) -> tuple[str, Optional[str], Opti
     if what == "prices" and len(path) == 2:
         return f"the {path[0]} price of period {path[1]}", None, period
     steps = (f"item {it}" if isinstance(it, int) else one_line(str(it)) for it in path)
-    unit = str(path[1]) if len(path) > 2 and what in ("case", "schedule", "mixture") else None
+    unit = str(path[1]) if len(path) > 2 and what in ("case", "schedule", "mixture", "powers") else None
     return f"{told(what)}: {', '.join(steps)}", unit, period
 
 
@@ -142,12 +145,13 @@ def need_finite(what: str, given: dict[str, Any]) -> None:
 
 def text_given(what: str, given: dict[str, Any]) -> str:
     """The text of a file that holds a dict."""
-    need_keys(what, given)
-    try:
-        need_finite(what, given)
-        return json_text(given)
-    except (RecursionError, TypeError, ValueError) as why:
-        raise HullError(f"{told(what)} can't be a file: {why}") from None
+    with refused_as(what):
+        need_keys(what, given)
+        try:
+            need_finite(what, given)
+            return json_text(given)
+        except (RecursionError, TypeError, ValueError) as why:
+            raise HullError(f"{told(what)} can't be a file: {why}") from None
 
 
 def value_of(what: str, given: dict[str, Any]) -> Any:
@@ -155,7 +159,7 @@ def value_of(what: str, given: dict[str, Any]) -> Any:
     try:
         return parse(text_given(what, given).encode())
     except Refused as why:
-        raise HullError(f"{told(what)} can't be a file: {why}") from None
+        raise HullError(f"{told(what)} can't be a file: {why}", status=STATUS.get(what)) from None
 
 
 def is_name(given: object) -> TypeGuard[Name]:
@@ -195,7 +199,8 @@ def need_periods(what: str, given: object, case: object) -> None:
         length = length_of(prices.get(key))
         if length is not None and length != periods:
             raise HullError(
-                f"{told(what)}: {key} has {counted(length, 'price')}, and the case {counted(periods, 'period')}"
+                f"{told(what)}: {key} has {counted(length, 'price')}, and the case {counted(periods, 'period')}",
+                status=STATUS[what],
             )
 
 
@@ -206,13 +211,13 @@ def as_case(given: GivenCase) -> Case:
         return read_case(given)
     found = cast(Case, object_of("case", given))
     need_form(found)
-    return found
+    return with_lists(found)
 
 
 def as_schedule(given: GivenSchedule, case: Case) -> Schedule:
     if isinstance(given, dict):
         return schedule_of(told("schedule"), value_of("schedule", given), case)
-    return read_schedule(given, case) if is_name(given) else cast(Schedule, object_of("schedule", given))
+    return read_schedule(given, case) if is_name(given) else cast(Schedule, object_of("schedule", given)).with_lists()
 
 
 def as_prices(given: GivenPrices, case: Case) -> Prices:
@@ -227,9 +232,23 @@ def as_prices(given: GivenPrices, case: Case) -> Prices:
     return read_prices(given, case.periods)
 
 
+def with_price_lists(given: dict[str, Any], case: Case) -> dict[str, Any]:
+    """A dict of zones, with the prices of zones that are objects as a file has them."""
+    zones = given.get("zones")
+    if not isinstance(zones, dict):
+        return given
+    lists = {zone: one if not isinstance(one, PriceSource) else in_file(one, case) for zone, one in zones.items()}
+    return {**given, "zones": lists}
+
+
+def in_file(given: PriceSource, case: Case) -> dict[str, Any]:
+    """Prices as a dict of their file's form."""
+    return as_prices(given, case).in_currency_per_mw()
+
+
 def as_zones(given: GivenZones, case: Case) -> Zones:
     if isinstance(given, dict):
-        return zones_of(told("zones"), value_of("zones", given), case)
+        return zones_of(told("zones"), value_of("zones", with_price_lists(given, case)), case)
     return read_zones(given, case) if is_name(given) else cast(Zones, object_of("zones", given))
 
 
@@ -241,7 +260,7 @@ def as_beside(
     if schedule is None:
         return read, None
     if not is_name(schedule) and not isinstance(schedule, dict):
-        return read, cast(Schedule, object_of("schedule", schedule))
+        return read, cast(Schedule, object_of("schedule", schedule)).with_lists()
     if read is None:
         raise HullError("a schedule is read with its case, which isn't given")
     return read, as_schedule(schedule, read)

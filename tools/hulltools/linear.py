@@ -7,18 +7,23 @@ from typing import Any, Optional
 
 from .errors import HullError
 
+WHY_MISSING: Optional[Exception] = None  # why SciPy couldn't be loaded
+NO_ROOM = ("cannot allocate memory", "failed to map segment")  # (so the system's loader says it)
 try:
     import numpy as np
     from scipy.optimize import Bounds, LinearConstraint, linprog, milp
     from scipy.sparse import coo_matrix
-except ImportError:
+except (ImportError, MemoryError, OSError) as error:
     milp = None
+    WHY_MISSING = error
 
 INFINITY = float("inf")
 Term = tuple[int, float]  # a variable by its number, and its factor
 
 
 def need_scipy() -> None:
+    if isinstance(WHY_MISSING, MemoryError) or any(it in str(WHY_MISSING).lower() for it in NO_ROOM):
+        raise HullError("no memory to load SciPy")
     if milp is None:
         raise HullError(
             "this needs SciPy with scipy.optimize.milp (Debian: apt install python3-scipy, and run it by /usr/bin/python3)"
@@ -53,6 +58,7 @@ class Program:
         self.factors: list[float] = []
         self.from_: list[float] = []
         self.to: list[float] = []
+        self.is_infeasible = False  # (so the solver found it, at the last solution without whole variables)
 
     def variable(self, low: float, high: float, cost: float = 0.0, whole: bool = False) -> int:
         """A variable; its number."""
@@ -109,6 +115,7 @@ class Program:
             bounds=np.column_stack([self.low, self.high]),
             method=method,
         )
+        self.is_infeasible = found.status == 2
         if found.x is None or found.status not in (0,):
             return None
         duals = np.zeros(len(low))

@@ -7,8 +7,9 @@ from dataclasses import dataclass
 from typing import TYPE_CHECKING, Any
 
 from .cases import Case
-from .json_texts import is_number, read_json
-from .numbers import is_whole, Millionths, MillionthsPerKilowatt, PRICE_LIMIT
+from .json_texts import is_number, read_json, refused_as
+from .numbers import is_whole, Millionths, PRICE_LIMIT
+from .options import FieldsAlone
 from .schedules import Fault, Plan, teller_of, thermal_plan
 from .errors import HullError, Name, one_line, write_whole
 from .prices import Prices
@@ -20,7 +21,7 @@ MOST_WEIGHT = 10**12
 
 
 @dataclass
-class Entry:
+class Entry(FieldsAlone):
     """A schedule of a thermal unit, and its weight."""
 
     weight: int
@@ -31,7 +32,7 @@ class Entry:
 
 
 @dataclass(repr=False)
-class Mixture:
+class Mixture(FieldsAlone):
     """For each thermal unit, by name, entries whose weights sum to `weight`."""
 
     weight: int
@@ -98,6 +99,7 @@ def read_mixture(name: Name, case: GivenCase) -> Mixture:
     return mixture_of(name, read_json(name, "a mixture"), as_case(case))
 
 
+@refused_as("mixture")
 def mixture_of(name: Name, value: Any, case: Case) -> Mixture:
     """The mixture of a JSON value for a case."""
     if not isinstance(value, dict) or not isinstance(value.get("thermal"), dict):

@@ -77,7 +77,7 @@ class Files:
                 found = found.get(step)
             elif isinstance(found, (list, dict)) and isinstance(step, int):
                 rows = found.values() if isinstance(found, dict) else found
-                found = next(islice(rows, step - 1, None), None) if step >= 1 else None
+                found = next(islice(rows, step - 1, None)) if 1 <= step <= len(rows) else None
             else:
                 return None
         return found
@@ -85,7 +85,7 @@ class Files:
     def name_of(self, what: str, group: str, number: int) -> Optional[str]:
         members = self.at(what, group)
         names = members if isinstance(members, dict) else ()
-        return next(islice(names, number - 1, None), None) if number >= 1 else None
+        return next(islice(names, number - 1, None)) if 1 <= number <= len(names) else None
 
 
 class Written(str):

@@ -5,14 +5,23 @@ import copy
 import os
 import warnings
 from collections.abc import Iterable, Mapping
-from typing import Any, Literal, Optional, Union, cast
+from typing import Any, Literal, Optional, Protocol, Union, cast
 
 from .errors import HullError, Name
 from .options import is_flag, told_value
-from .outputs import Text
+from .outputs import Settlement, Text
 from .read_texts import read_output
 
-GivenText = Union[Text, Name]
+
+class HasSettlement(Protocol):
+    """An object with a settlement: a list of a study."""
+
+    @property
+    def settlement(self) -> Settlement:
+        ...
+
+
+GivenText = Union[Text, HasSettlement, Name]
 GivenTexts = Union[GivenText, Mapping[Any, GivenText], Iterable[GivenText]]
 Money = Literal["currency", "millionths"]
 MONEY = ("currency", "millionths")
@@ -21,8 +30,9 @@ MONEY = ("currency", "millionths")
 def as_text(given: GivenText) -> Text:
     if isinstance(given, (str, os.PathLike)):
         return read_output(given)
-    if isinstance(given, Text):
-        return given
+    for text in (given, getattr(given, "settlement", None)):
+        if isinstance(text, Text):
+            return text
     raise HullError(
         f"no `{type(given).__name__}` can be taken for a text of hull: a file's name or what a call gives is due"
     )
@@ -40,12 +50,21 @@ def named(text: Text, name: str) -> Text:
 def texts_of(given: GivenTexts) -> list[Text]:
     """One text, several, or several by name, each with a name of its own, as `hull settle 2` for the second one."""
     if isinstance(given, Mapping):
-        texts = [named(as_text(text), str(name)) for name, text in given.items()]
-    elif isinstance(given, (str, os.PathLike, Text)) or not isinstance(given, Iterable):
+        texts = [as_text(text) for text in given.values()]
+        return [named(text, name) for text, name in zip(texts, told_apart([str(name) for name in given]))]
+    if isinstance(given, (str, os.PathLike, Text)) or not isinstance(given, Iterable):
         texts = [as_text(cast(GivenText, given))]
     else:
         texts = [as_text(text) for text in given]
-    return [named(text, name) for text, name in zip(texts, told_apart([text.name for text in texts]))]
+    return [named(text, name) for text, name in zip(texts, told_apart(shown_names(texts)))]
+
+
+def shown_names(texts: list[Text]) -> list[str]:
+    """The names of texts in tables: of one that has its file's, this without folders, unless another file has that too."""
+    files = {text.file for text in texts if text.file == text.name}
+    ends = [os.path.basename(file) for file in files]
+    is_cut = [text.file == text.name and ends.count(os.path.basename(text.file)) == 1 for text in texts]
+    return [os.path.basename(text.name) if cut else text.name for text, cut in zip(texts, is_cut)]
 
 
 def told_apart(names: list[str]) -> list[str]:

@@ -4,8 +4,8 @@ from __future__ import annotations
 import difflib
 import math
 import operator
-from collections.abc import Iterable, Mapping, Set
-from typing import Any, Optional, TypeVar
+from collections.abc import Iterable, Mapping, Sequence, Set
+from typing import TYPE_CHECKING, Any, Optional, TypeVar
 
 from .errors import HullError, one_line
 
@@ -46,6 +46,15 @@ def float_of(value: Any) -> Optional[float]:
     except (OverflowError, TypeError, ValueError):
         return None
     return found if math.isfinite(found) else None
+
+
+def is_whole_number(number: Any) -> bool:
+    """Whether a number has a whole value, as 8000 and 8000.0 have."""
+    try:
+        operator.index(number)
+    except TypeError:
+        return float_of(number) is not None and not isinstance(number, str) and bool(number == int(number))
+    return not is_flag(number)
 
 
 def number_option(name: str, value: Any, least: float, most: float = math.inf, above: bool = False) -> float:
@@ -91,8 +100,32 @@ def hint_of(key: object, known: Iterable[str]) -> str:
     return f"known: {shown}{', ..' if len(names) > 12 else ''}" if names else "there is none"
 
 
-def member(members: Mapping[tuple[str, str], Found], kind: str, name: str, what: str) -> Found:
-    """What there is by the kind and the name of a unit or bid."""
+def refuse_unknown_keys(where: str, given: object, known: Sequence[str]) -> None:
+    """Refuses a key of an object that means nothing there, since it is most likely misspelt."""
+    for key in given if isinstance(given, Mapping) else ():
+        if key not in known:
+            raise HullError(f"{where}: `{one_line(key)}` is no key of it: {hint_of(key, known)}")
+
+
+class FieldsAlone:
+    """A data class of which a script may set the fields, and nothing else: another name is most likely misspelt."""
+
+    if not TYPE_CHECKING:  # (a type checker would let any name be set)
+
+        def __setattr__(self, name: str, value: object) -> None:
+            fields = self.__dataclass_fields__
+            if name not in fields:
+                raise HullError(f"`{type(self).__name__}` has no member `{name}` to set: {hint_of(name, fields)}")
+            super().__setattr__(name, value)
+
+
+def member(members: Mapping[tuple[str, str], Found], kind: Optional[str], name: Optional[str], what: str) -> Found:
+    """What there is by the kind and the name of a unit or bid. Where one of them is None the other is a name, of whichever kind alone has it."""
+    if kind is None or name is None:
+        given = name if kind is None else kind
+        if given is None:
+            raise HullError(f"{what}: the name of a unit or bid is due")
+        kind, name = kind_of(members, given, what), given
     found = members.get((kind, name))
     if found is None:
         kinds = list(dict.fromkeys(known for known, _ in members))
@@ -101,3 +134,14 @@ def member(members: Mapping[tuple[str, str], Found], kind: str, name: str, what:
         names = [known for of, known in members if of == kind]
         raise HullError(f'{what} has no {kind} unit "{told_value(name)}": {hint_of(name, names)}')
     return found
+
+
+def kind_of(members: Mapping[tuple[str, str], object], name: str, what: str) -> str:
+    """The kind of the unit or bid of a name, which one kind alone has to have."""
+    kinds = [kind for kind, known in members if known == name]
+    if len(kinds) > 1:
+        raise HullError(f'{what} has a {" and a ".join(kinds)} "{told_value(name)}": give the kind before the name')
+    if not kinds:
+        names = [known for _, known in members]
+        raise HullError(f'{what} has no unit "{told_value(name)}": {hint_of(name, names)}')
+    return kinds[0]

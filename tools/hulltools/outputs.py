@@ -6,13 +6,14 @@ from __future__ import annotations
 
 import json
 import re
-from collections.abc import Sequence
+from collections.abc import Iterator, Sequence
 from dataclasses import dataclass, field
+from decimal import Decimal
 from typing import TYPE_CHECKING, Any, Callable, ClassVar, Optional, SupportsFloat, Union, cast
 
 from .errors import HullError, Name, one_line, read_bytes, shown_name, write_whole
 from .mixtures import MOST_WEIGHT, Entry, Mixture
-from .numbers import Kilowatts, Millionths, MillionthsPerKilowatt
+from .numbers import Kilowatts, Millionths, MillionthsPerKilowatt, in_currency
 from .options import member
 from .prices import Prices, PriceSource
 from .schedules import Plan
@@ -77,6 +78,7 @@ class Text:
 
     command: ClassVar[str]
     name: str
+    file = ""  # (the name of the file that it was read from; empty where there is none)
     printed = b""  # (as the program printed it; empty where the object wasn't read from that)
 
     def write(self, name: Name, inputs: Sequence[str] = ()) -> None:
@@ -99,10 +101,10 @@ class Text:
         stand beside where case and schedule are given. `currency` is the old name of `money`, for a flag.
         """
         from .inputs import as_beside
-        from .named_texts import is_in_currency
+        from .named_texts import is_in_currency, texts_of
         from .tables import tables_of
 
-        return tables_of([self], *as_beside(case, schedule), is_in_currency(money, currency))
+        return tables_of(texts_of(self), *as_beside(case, schedule), is_in_currency(money, currency))
 
     def frames(
         self,
@@ -134,7 +136,7 @@ def frames(
     """Data frames of texts: `runs`, `proposals`, `prices`, `units` and `responses`, as far as these have rows.
 
     `texts` are one, several, or several by name, each an object or a file's name. A row has the name of its text in
-    the column `report`. Texts of one name are numbered: `hull settle`, `hull settle 2`. Numbers are floating, in
+    the column `report`; of a file this is its name without folders, unless two files have that one. Texts of one name are numbered: `hull settle`, `hull settle 2`. Numbers are floating, in
     the currency and MW; with `money="millionths"` they are whole, in millionths and kilowatts. With a start, tables
     by period are indexed by time. `currency` is the old name of `money`, for a flag. Raises `HullError` where
     pandas isn't there, or where something given isn't such a text.
@@ -181,8 +183,8 @@ class Priced(Text, PriceSource):
     def lost_opportunity(self) -> Millionths:
         return Millionths(sum(unit.lost_opportunity for unit in self.units))
 
-    def unit(self, kind: str, name: str) -> Owed:
-        """What a unit or bid is owed. Raises `HullError` where there is none."""
+    def unit(self, kind: Optional[str] = None, name: Optional[str] = None) -> Owed:
+        """What a unit or bid is owed; a name of one kind needs no kind before it. Raises `HullError` where there is none."""
         return member({(unit.kind, unit.name): unit for unit in self.units}, kind, name, self.name)
 
 
@@ -227,6 +229,21 @@ class Convex(Priced):
     @property
     def proposals(self) -> list[Row]:
         return [self.best]
+
+    @property
+    def within_in_currency(self) -> Decimal:
+        """The distance that was to be reached in the currency, exact, as the parameter `within` has it."""
+        return in_currency(self.within)
+
+    @property
+    def is_near(self) -> bool:
+        """Whether the distance that was to be reached is reached; the search also ends after its rounds, or at a millionth of the value."""
+        return self.distance <= self.within
+
+    @property
+    def rounds_made(self) -> int:
+        """How many rounds the search made, which `made` is here; `rounds` is the most that it was to make."""
+        return self.made
 
 
 AnyPriced = Union[Report, Settlement, Convex]
@@ -322,7 +339,8 @@ class Lines:
         *self.whole, self.rest = data.split(b"\n")
 
     def wrong(self, more: str = "") -> HullError:
-        return HullError(f"{self.name}, line {self.read + 1}: not a line of {self.what}{more}")
+        at = self.read + 1
+        return HullError(f"{self.name}, line {at}: not a line of {self.what}{more}", at_line=at)
 
     def next(self) -> Optional[str]:
         """The next line as a text, or None where there is no whole one."""
@@ -424,9 +442,9 @@ def read_report(lines: Lines) -> Report:
         rows.append(read_row(lines, number, value, periods))
     chosen, value = lines.take(f"chosen {NUMBER} value {NUMBER}", COUNT, SUM)
     if not 1 <= chosen <= len(rows):
-        raise HullError(f"{lines.name}, line {lines.read}: there is no proposal {chosen}")
+        raise HullError(f"{lines.name}, line {lines.read}: there is no proposal {chosen}", at_line=lines.read)
     if rows[chosen - 1].value != value:
-        raise HullError(f"{lines.name}, line {lines.read}: proposal {chosen} has another value")
+        raise HullError(f"{lines.name}, line {lines.read}: proposal {chosen} has another value", at_line=lines.read)
     units, sums = read_units(lines, count, periods), read_sums(lines)
     lines.end()
     return Report(lines.name, periods, cost, rows[chosen - 1], units, *sums, budget, ahead, rows)
@@ -456,10 +474,12 @@ def read_mixture_lines(lines: Lines, names: list[str], periods: int) -> Mixture:
     for name in names:
         quoted, count = lines.take(f"mixture thermal ({NAME}) entries {NUMBER}", (1, COUNT[1]))
         if name_of(quoted) != name:
-            raise HullError(f"{lines.name}, line {lines.read}: another unit's mixture is due here")
+            raise HullError(f"{lines.name}, line {lines.read}: another unit's mixture is due here", at_line=lines.read)
         thermal[name] = [read_entry(lines, weight, periods) for _ in range(count)]
         if sum(entry.weight for entry in thermal[name]) != weight:
-            raise HullError(f"{lines.name}, line {lines.read}: the unit's shares don't sum to the weight")
+            raise HullError(
+                f"{lines.name}, line {lines.read}: the unit's shares don't sum to the weight", at_line=lines.read
+            )
     return Mixture(weight, thermal)
 
 
@@ -525,6 +545,45 @@ def read_certificate(lines: Lines) -> Certificate:
 
 
 Output = Union[AnyPriced, Bound, Fixed, Certificate]
+
+
+def sums_of_units(text: AnyPriced) -> Iterator[tuple[str, int, int]]:
+    """What each unit is owed, and what all are and supply: as the text has it, and as its rows of units make it."""
+    for unit in text.units:
+        yield f'the payment of "{one_line(unit.name)}"', unit.payment, unit.earned - unit.scheduled
+    yield "the sum of payments", text.payments, sum(unit.payment for unit in text.units)
+    signs = [-1 if unit.kind == "bid" else 1 for unit in text.units]
+    for t in range(text.periods):
+        supplied = sum(sign * unit.power[t] for sign, unit in zip(signs, text.units))
+        yield f"what is supplied in period {t + 1}", text.best.supplied[t], supplied
+        yield f"what is reserved in period {t + 1}", text.best.reserved[t], sum(unit.reserve[t] for unit in text.units)
+
+
+def sums_of(text: Output) -> Iterator[tuple[str, int, int]]:
+    """Numbers that others of the text determine: the name of each, as the text has it, and as the others make it."""
+    if isinstance(text, (Report, Settlement, Convex)):
+        yield from sums_of_units(text)
+    if isinstance(text, (Report, Settlement, Convex, Certificate)):
+        yield "the gap", text.gap, text.cost - text.value
+        yield "the sum of payments and surplus", text.payments + text.surplus, text.gap
+    if isinstance(text, (Convex, Certificate, Bound)):
+        yield "the distance", text.distance, text.bound - text.value
+    if isinstance(text, (Convex, Certificate)):
+        yield "the least", text.least, max(0, text.cost - text.bound)
+    if isinstance(text, Fixed):
+        yield "the sum of payments", text.hull.payments, sum(of_hull for *_, of_hull, _ in text.units)
+        yield "the sum of payments", text.fixed.payments, sum(of_fixed for *_, of_fixed in text.units)
+
+
+def need_sums(text: Output) -> None:
+    """Refuses a text whose numbers contradict each other: no program printed it so."""
+    for name, said, due in sums_of(text):
+        if said != due:
+            raise HullError(
+                f"{text.name}: its numbers contradict each other: {name} is {said}, and by the others {due}"
+            )
+
+
 FORMS: dict[str, tuple[str, Callable[[Lines], Output]]] = {
     "hull-report 1": ("a report of `hull price`", read_report),
     "hull-settlement 1": ("a text of `hull settle`", read_settlement),
@@ -546,6 +605,7 @@ def parse_output(name: Name, data: bytes, due: Sequence[str] = tuple(FORMS)) -> 
         raise HullError(f"{shown_name(name)}: this is {is_a}, where {' or '.join(FORMS[it][0] for it in due)} is due")
     what, read = FORMS[first if first in due else due[0]]
     found = read(Lines(name, data, what))
+    need_sums(found)
     found.printed = data
     return found
 
@@ -569,6 +629,6 @@ def read_output(name: Name, due: Optional[Sequence[str]] = None) -> Output:
     """The text of `hull price`, `settle`, `convex`, `bound`, `fixed` or `certify` in a file, in millionths and kilowatts.
 
     `due` are the first lines that are taken, or None for each of them. Raises `HullError` where the text is none of
-    these, or where `hull audit` would call it out of form.
+    these, where `hull audit` would call it out of form, or where its numbers contradict each other.
     """
     return parse_output(name, read_bytes(name, "a text of hull", most=2**31, begins=b"hull-"), due or tuple(FORMS))

@@ -1,14 +1,15 @@
 """A prices file: an energy price and a reserve price for each period, in millionths per kilowatt here."""
+import difflib
 import os
 from collections.abc import Iterable, Sequence
-from dataclasses import dataclass
+from dataclasses import dataclass, field
 from decimal import Decimal
 from typing import TYPE_CHECKING, Any, Optional, SupportsFloat
 
-from .errors import HullError, Name, write_whole
-from .json_texts import is_number, read_json
+from .errors import HullError, Name, one_line, write_whole
+from .json_texts import is_number, read_json, refused_as
 from .numbers import PRICE_LIMIT, MillionthsPerKilowatt, decimal_text, in_currency_per_mw, price
-from .options import counted, float_of, is_list, items_of, told_value, whole_option
+from .options import FieldsAlone, counted, float_of, is_list, items_of, told_value, whole_option
 
 if TYPE_CHECKING:
     from pandas import DataFrame
@@ -16,6 +17,8 @@ if TYPE_CHECKING:
     from .tables import Start
 
 MOST_SHOWN = 4  # prices
+MOST_PERIODS = 168
+NEAR = 0.7  # how like `reserve` a key is that is most likely meant for it
 TEXT = b"hull-"  # what each text of the program begins with
 
 
@@ -35,12 +38,26 @@ def told_prices(numbers: Any) -> str:
     return f"[{', '.join(shown[:MOST_SHOWN])}{', ..' if len(shown) > MOST_SHOWN else ''}]"
 
 
+@dataclass(frozen=True)
+class Cut:
+    """A price outside the limits, in millionths per kilowatt and period, in place of which the limit stands; `key` is energy or reserve."""
+
+    key: str
+    period: int
+    price: float
+    limit: MillionthsPerKilowatt
+
+    def __str__(self) -> str:
+        return f"{self.key} of period {self.period} from {told_price(self.price)} to {told_price(self.limit)}"
+
+
 @dataclass(repr=False)
-class Prices(PriceSource):
-    """Energy and reserve prices of each period, in millionths per kilowatt and period."""
+class Prices(FieldsAlone, PriceSource):
+    """Energy and reserve prices of each period, in millionths per kilowatt and period; `cut` says which of them stand for others."""
 
     energy: list[MillionthsPerKilowatt]
     reserve: list[MillionthsPerKilowatt]
+    cut: list[Cut] = field(default_factory=list, compare=False)
 
     def __repr__(self) -> str:
         told = f"energy={told_prices(self.energy)}, reserve={told_prices(self.reserve)}"
@@ -60,6 +77,31 @@ class Prices(PriceSource):
                 except HullError as why:
                     why.period = t
                     raise
+
+    @property
+    def told_cut(self) -> str:
+        """Of how many periods prices were cut, in words; an empty text where none were."""
+        periods = len({one.period for one in self.cut})
+        return f"prices of {counted(periods, 'period')} were cut at the limits" if periods else ""
+
+    @property
+    def told_cuts(self) -> str:
+        """The same with each price that was cut, and what it was; of many the first ones."""
+        more = ", .." if len(self.cut) > MOST_SHOWN else ""
+        return f"{self.told_cut}, per MW and period: {', '.join(map(str, self.cut[:MOST_SHOWN]))}{more}"
+
+    @property
+    def told_limits(self) -> str:
+        """Which prices stand at a limit of a search, in words; an empty text where none do. Reserve prices of 0 are no such."""
+        rows = (("energy", self.energy), ("reserve", self.reserve))
+        found = [
+            f"{key} of period {t} at {told_price(number)}"
+            for key, numbers in rows
+            for t, number in enumerate(numbers, 1)
+            if abs(number) == PRICE_LIMIT
+        ]
+        more = ", .." if len(found) > MOST_SHOWN else ""
+        return f"prices stand at the limits, per MW and period: {', '.join(found[:MOST_SHOWN])}{more}" if found else ""
 
     def text(self) -> str:
         """The file: prices in currency per MW and period, exact."""
@@ -88,7 +130,7 @@ class Prices(PriceSource):
 
 
 @dataclass(repr=False)
-class FlatPrices(PriceSource):
+class FlatPrices(FieldsAlone, PriceSource):
     """One energy price and one reserve price that hold in each period, in millionths per kilowatt and period."""
 
     energy: MillionthsPerKilowatt
@@ -98,17 +140,43 @@ class FlatPrices(PriceSource):
         return f"<FlatPrices per MW and period: energy={told_price(self.energy)}, reserve={told_price(self.reserve)}>"
 
     def over(self, periods: int) -> Prices:
-        """The same prices in each of so many periods."""
+        """The same prices in each of so many periods, 1 to 168."""
+        periods = whole_option("periods", periods, 1, MOST_PERIODS)
         return Prices([self.energy] * periods, [self.reserve] * periods)
 
+    def in_currency_per_mw(self) -> dict[str, Decimal]:
+        """Both prices in the currency per MW and period, one number each. A file has lists, as `over(periods)` gives them."""
+        return {"energy": in_currency_per_mw(self.energy), "reserve": in_currency_per_mw(self.reserve)}
 
-def nearest_prices(key: str, numbers: Any, least: int) -> list[MillionthsPerKilowatt]:
+    def write(self, name: Name, inputs: Sequence[str] = (), periods: Optional[int] = None) -> None:
+        """Writes the file of so many periods. Raises `HullError` where these are left out, since a file has a price for each."""
+        self.over_all("a file", periods).write(name, inputs)
+
+    def frame(
+        self, start: Optional["Start"] = None, hours_per_period: SupportsFloat = 1, periods: Optional[int] = None
+    ) -> "DataFrame":
+        """A row for each of so many periods. Raises `HullError` where these are left out."""
+        return self.over_all("a frame", periods).frame(start, hours_per_period)
+
+    def over_all(self, what: str, periods: Optional[int]) -> Prices:
+        if periods is None:
+            raise HullError(
+                f"{what} has prices of each period, and these hold in any: give `periods=`, as case.periods"
+            )
+        return self.over(periods)
+
+
+def nearest_prices(key: str, numbers: Any, least: int, cut: list[Cut]) -> list[MillionthsPerKilowatt]:
+    """The nearest whole prices within the limits; what was outside is noted in `cut`."""
     found = []
     for t, given in enumerate(items_of(f"the {key} prices", numbers), 1):
         number = float_of(given)
         if number is None:
             raise HullError(f"the {key} price of period {t} is {told_value(given)}: a number is due", period=t)
-        found.append(MillionthsPerKilowatt(min(max(round(number), least), PRICE_LIMIT)))
+        whole = round(number)
+        found.append(MillionthsPerKilowatt(min(max(whole, least), PRICE_LIMIT)))
+        if found[-1] != whole:
+            cut.append(Cut(key, t, number, found[-1]))
     return found
 
 
@@ -116,9 +184,11 @@ def prices_near(energy: Iterable[float], reserve: Iterable[float]) -> Prices:
     """The whole prices nearest to some in millionths per kilowatt, as a solver's duals are.
 
     Each has a number for each period. One outside the limits of docs/FORMATS.md becomes the limit: 10,000.00 per MW and period either way,
-    and 0 for reserve. Raises `HullError` where one is no number, or where the lists differ in length.
+    and 0 for reserve. `cut` says then what it was. Raises `HullError` where one is no number, or where the lists differ in length.
     """
-    found = Prices(nearest_prices("energy", energy, -PRICE_LIMIT), nearest_prices("reserve", reserve, 0))
+    cut: list[Cut] = []
+    energies, reserves = nearest_prices("energy", energy, -PRICE_LIMIT, cut), nearest_prices("reserve", reserve, 0, cut)
+    found = Prices(energies, reserves, cut)
     found.need_form()
     return found
 
@@ -135,18 +205,28 @@ def is_text_of_hull(name: Name) -> bool:
 
 
 def list_of(name: Name, key: str, value: Any, periods: Optional[int], least: int) -> list[MillionthsPerKilowatt]:
-    if not isinstance(value, list) or periods is not None and len(value) != periods:
+    if not isinstance(value, list):
         raise HullError(f"{name}: {key} isn't a list of a price for each period")
+    if periods is not None and len(value) != periods:
+        raise HullError(
+            f"{name}: {key} has {counted(len(value), 'price')}: one for each of {counted(periods, 'period')} is due"
+        )
     for t, given in enumerate(value, 1):
         if not is_number(given) or not least <= price(given) <= PRICE_LIMIT:
             raise HullError(
-                f"{name}: {key} has in period {t} no price from {least // 1000:,} to {PRICE_LIMIT // 1000:,}"
+                f"{name}: {key} has in period {t} no price from {least // 1000:,} to {PRICE_LIMIT // 1000:,}", period=t
             )
     return [price(it) for it in value]
 
 
+@refused_as("prices")
 def prices_of(name: Name, value: Any, periods: Optional[int] = None) -> Prices:
-    """The prices of a JSON value; where `periods` is None, as many as it has."""
+    """The prices of a JSON value; where `periods` is None, as many as it has. What is refused has the status of a prices file."""
+    return prices_within(name, value, periods)
+
+
+def prices_within(name: Name, value: Any, periods: Optional[int] = None) -> Prices:
+    """The same of a part of another file, as zones, which the program doesn't read."""
     if not isinstance(value, dict) or "energy" not in value:
         raise HullError(f"{name}: no prices: it isn't an object with the list `energy`")
     energy = list_of(name, "energy", value["energy"], periods, -PRICE_LIMIT)
@@ -154,16 +234,32 @@ def prices_of(name: Name, value: Any, periods: Optional[int] = None) -> Prices:
     return Prices(energy, list_of(name, "reserve", reserve, len(energy), 0))
 
 
+@refused_as("prices")
+def refuse_misspelt_reserve(name: Name, value: dict[str, Any]) -> None:
+    """Refuses a key that is most likely meant for `reserve`, without which reserve prices are 0. Other keys are skipped, as by the program."""
+    near = [] if "reserve" in value else [key for key in value if is_near(key, "reserve")]
+    if near:
+        raise HullError(f"{name}: `{one_line(near[0])}` is no key of it: is `reserve` meant?")
+
+
+def is_near(key: str, known: str) -> bool:
+    return bool(difflib.get_close_matches(key.casefold(), [known], 1, NEAR))
+
+
 def read_prices(name: Name, periods: Optional[int] = None) -> Prices:
     """The prices of a file, in millionths per kilowatt and period.
 
     Without a reserve list those are 0. Of a file that is a text of `hull price`, `settle` or `convex` they are the prices of the text. Raises
-    `HullError` where docs/FORMATS.md refuses the file, or where it hasn't a price for each of so many periods, if these are given.
+    `HullError` where docs/FORMATS.md refuses the file, or where it hasn't a price for each of so many periods, if these are given, or where a key
+    is most likely a misspelt `reserve`.
     """
     from .outputs import read_priced
 
     if not is_text_of_hull(name):
-        return prices_of(name, read_json(name, "prices"), periods)
+        value = read_json(name, "prices")
+        prices = prices_of(name, value, periods)
+        refuse_misspelt_reserve(name, value)
+        return prices
     text = read_priced(name)
     if periods not in (None, text.periods):
         raise HullError(

@@ -3,37 +3,46 @@ from __future__ import annotations
 
 import contextlib
 import hashlib
+import math
 import os
 import re
 import shutil
 import subprocess
 import tempfile
 from collections.abc import Mapping
+from fractions import Fraction
 from types import TracebackType
 from typing import Optional, Type, cast
 
-from .apart import OverTime, die_with_parent
-from .errors import HullError, Name, Tell, begun, one_line
+from .apart import die_with_parent
+from .errors import HullError, Name, OverTime, Tell, begun, is_tool_at_work, is_utf8, one_line, shown_name, told_with
 from .inputs import (
     Given,
     GivenCase,
     GivenMixture,
     GivenPrices,
     GivenSchedule,
+    PerMwh,
     as_case,
     content_of,
+    exact_of,
     is_name,
     need_periods,
     told,
 )
 from .numbers import Millionths, millionths
 from .options import number_option, seconds_option, whole_option
-from .outputs import ROUNDS, WITHIN, Certificate, Convex, Report, Settlement, parse_output, read_priced
+from .outputs import RADIUS, ROUNDS, WITHIN, Certificate, Convex, Report, Settlement, parse_output, read_priced
 from .prices import FlatPrices, Prices, is_text_of_hull
 from .progress import step
 from .refusals import Held, refusal
 
 MOST_WORK = 50_000_000  # proposals times units times periods that `hull price` takes
+PROGRAMS = (
+    "crates/hull_cli/out/hull_cli",
+    "dist/linux-x86_64/hull",
+    "bin/hull",
+)  # beside a launcher: those that it runs
 HOME = os.path.dirname(os.path.dirname(os.path.dirname(os.path.abspath(__file__))))
 
 
@@ -47,7 +56,8 @@ def default_program() -> str:
         return launcher
     found = shutil.which("hull")
     if not found:
-        raise HullError("no `hull` is on the path: give its place by --hull, or in the variable HULL")
+        way = "give its place by --hull" if is_tool_at_work() else "give its place as `hull=` or `Hull(place)`"
+        raise HullError(f"no `hull` is on the path: {way}, or in the variable HULL")
     return found
 
 
@@ -73,14 +83,16 @@ class Hull:
     def say_if_unbuilt(self) -> None:
         """A launcher whose program isn't there builds it, and says on standard error how far it is."""
         home = os.path.dirname(os.path.realpath(self.program))
-        programs = ("crates/hull_cli/out/hull_cli", "dist/linux-x86_64/hull")
         is_launcher = os.path.isdir(os.path.join(home, "crates", "hull_cli"))
-        if is_launcher and not self.told and not any(os.access(os.path.join(home, it), os.X_OK) for it in programs):
+        if is_launcher and not self.told and not any(os.access(os.path.join(home, it), os.X_OK) for it in PROGRAMS):
             self.tell("the program isn't built yet: ./hull proves and builds it first, and says how far it is")
         self.told = True
 
     def run(self, *words: str) -> tuple[int, bytes]:
         """Status and standard output."""
+        odd = next((word for word in words if not is_utf8(word)), None)
+        if odd is not None:  # (it would end with status 7, and say nothing)
+            raise HullError(f"{shown_name(odd)}: this isn't UTF-8, and the program takes no other words")
         self.say_if_unbuilt()
         what = " ".join(["hull", *words[:1]])
         try:
@@ -129,6 +141,20 @@ class Hull:
         with open(place, "rb") as file:
             return f"program of sha256 {hashlib.sha256(file.read()).hexdigest()}"
 
+    def files(self) -> list[str]:
+        """The program's file, and those beside it that a launcher runs."""
+        place = os.path.realpath(shutil.which(self.program) or self.program)
+        beside = [os.path.join(os.path.dirname(place), it) for it in PROGRAMS]
+        return [place, *filter(os.path.isfile, beside)]
+
+    def sums(self) -> list[str]:
+        """What tells the program apart: what it says of itself, and the sums of its files."""
+        found = [self.version()]
+        for name in self.files():
+            with told_with(name), open(name, "rb") as file:
+                found.append(hashlib.sha256(file.read()).hexdigest())
+        return found
+
     def text_with(self, command: str, given: Mapping[str, Given], *more: str) -> bytes:
         """What a command prints of these files; each is held by a file for as long as it is needed."""
         unread: Optional[HullError] = None
@@ -165,9 +191,17 @@ class Hull:
             raise HullError(f"hull check ended with status {status}, and with no line that says why")
         return line if status not in (0, 4) else None
 
-    def price(self, case: GivenCase, schedule: GivenSchedule, *more: str) -> Report:
-        """The report of `hull price`; `more` are further words, as `"--proposals", "40"`."""
-        output = self.text_with("price", {"case": case, "schedule": schedule}, *more)
+    def price(
+        self,
+        case: GivenCase,
+        schedule: GivenSchedule,
+        *more: object,
+        proposals: Optional[int] = None,
+        ahead: Optional[int] = None,
+    ) -> Report:
+        """The report of `hull price`, with at most so many proposals and so many open at once; `more` are further words of the program."""
+        words = [*more, *option_of("proposals", proposals, 1, 10_000), *option_of("ahead", ahead, 1, 16)]
+        output = self.text_with("price", {"case": case, "schedule": schedule}, *map(str, words))
         return cast(Report, parse_output("hull price", output, ("hull-report 1",)))
 
     def settle(
@@ -181,12 +215,24 @@ class Hull:
         return found
 
     def certify(
-        self, case: GivenCase, schedule: GivenSchedule, prices: GivenPrices, mixture: GivenMixture, *more: str
+        self,
+        case: GivenCase,
+        schedule: GivenSchedule,
+        prices: GivenPrices,
+        mixture: GivenMixture,
+        *more: object,
+        radius: Optional[int] = None,
+        radius_per_mw: Optional[PerMwh] = None,
     ) -> Certificate:
-        """The certificate of prices and a mixture; `more` are further words, as `"--radius", "1000"`."""
+        """The certificate of prices and a mixture; `more` are further words of the program.
+
+        The bound is of all prices that differ from these, in each period, by at most the radius, in millionths per kilowatt, or `radius_per_mw`, in the
+        currency per MW and period; where both are None it is of all.
+        """
+        words = [*more, *radius_option(radius_of(radius, radius_per_mw))]
         self.need("certify")
         given: dict[str, Given] = {"case": case, "schedule": schedule, "prices": prices, "mixture": mixture}
-        output = self.text_with("certify", given, *more)
+        output = self.text_with("certify", given, *map(str, words))
         return cast(Certificate, parse_output("hull certify", output, ("hull-certificate 1",)))
 
     def convex(
@@ -205,6 +251,39 @@ class Hull:
         self.need("convex")
         output = self.text_with("convex", {"case": case, "schedule": schedule}, *more)
         return cast(Convex, parse_output("hull convex", output, ("hull-convex 1",)))
+
+    def convex_prices(
+        self,
+        case: GivenCase,
+        schedule: GivenSchedule,
+        within: Optional[float] = None,
+        rounds: Optional[int] = None,
+    ) -> Convex:
+        """The same as `convex`, by the name that the function has."""
+        return self.convex(case, schedule, within, rounds)
+
+
+def option_of(name: str, number: Optional[int], least: int, most: int) -> list[str]:
+    """The words of an option with a whole number within its range; none where it is left out."""
+    return [] if number is None else [f"--{name}", str(whole_option(name, number, least, most))]
+
+
+def radius_of(radius: Optional[int], per_mw: Optional[PerMwh]) -> Optional[int]:
+    """The radius in millionths per kilowatt, whichever of the two is given; one in the currency per MW is rounded to the nearest, a half up."""
+    if per_mw is None:
+        return radius
+    if radius is not None:
+        raise HullError("radius and radius_per_mw are both given, and one of them is due")
+    number_option("radius_per_mw", per_mw, RADIUS[0] // 1000, RADIUS[1] // 1000)
+    return math.floor(exact_of(per_mw, float(per_mw)) * 1000 + Fraction(1, 2))
+
+
+def radius_option(radius: Optional[int]) -> list[str]:
+    """The words of a radius. One that is none is refused with its unit, since it isn't in the currency as prices per MWh are."""
+    try:
+        return option_of("radius", radius, *RADIUS)
+    except HullError as why:
+        raise HullError(f"{why.line}, in millionths per kilowatt: 1000 is 1.00 per MW and period") from None
 
 
 def flat_over(prices: FlatPrices, case: GivenCase) -> tuple[Prices, Optional[HullError]]:
@@ -233,7 +312,7 @@ class as_file:
         content = content_of(self.what, given)
         name = Held(self.nameless() or self.named())
         name.shown = shown
-        with open(name, "w", encoding="utf-8") as file:
+        with told_with(f"{shown or 'what is given'}, in {name}"), open(name, "w", encoding="utf-8") as file:
             file.write(content)
         return name
 

@@ -9,9 +9,9 @@ import os
 import threading
 import time
 from collections.abc import Iterator
-from typing import Callable, List, Optional
+from typing import Callable, Optional
 
-from .telling import Teller
+from .telling import Caller, Teller
 
 FIRST, EVERY, TICK = 1.5, 10.0, 0.2  # seconds: when a step is first told, when again, and how often is looked
 
@@ -74,14 +74,23 @@ class Now:
 NOW = Now()
 
 
+def is_begun(thread: threading.Thread) -> bool:
+    """Whether the thread could be begun: its stack is as large as all that a tool needs otherwise."""
+    try:
+        thread.start()
+    except RuntimeError:
+        return False
+    return True
+
+
 @contextlib.contextmanager
 def told_by(tell: Teller) -> Iterator[None]:
-    """Steps are told while this lasts, unless HULL_PROGRESS is 0."""
-    if NOW.progress or os.environ.get("HULL_PROGRESS") == "0":
+    """Steps are told while this lasts, unless HULL_PROGRESS is 0, or there is no room for the thread that tells."""
+    progress = Progress(tell)
+    if NOW.progress or os.environ.get("HULL_PROGRESS") == "0" or not is_begun(progress.thread):
         yield
         return
-    NOW.progress = progress = Progress(tell)
-    progress.thread.start()
+    NOW.progress = progress
     try:
         yield
     finally:
@@ -89,6 +98,16 @@ def told_by(tell: Teller) -> Iterator[None]:
         progress.is_over.set()
         progress.thread.join()
         tell.hide()
+
+
+@contextlib.contextmanager
+def told_to(tell: Optional[Callable[[object], None]]) -> Iterator[None]:
+    """A function gets each step as a line of text while this lasts, as a log does: within two seconds, and each ten; None hears nothing."""
+    if tell is None:
+        yield
+        return
+    with told_by(Caller(tell)):
+        yield
 
 
 @contextlib.contextmanager

@@ -9,7 +9,7 @@ import sys
 import tempfile
 from dataclasses import dataclass
 from datetime import datetime, timezone
-from typing import Dict, List, Optional, Tuple
+from typing import Dict, List, Mapping, Optional, Sequence, Tuple
 
 from .apart import run_apart
 from .errors import HullError, read_bytes
@@ -20,6 +20,18 @@ MOST_FOR_VERSION = 60.0  # seconds
 
 def sha256_of(name: str) -> str:
     return hashlib.sha256(read_bytes(name, "a file", most=2**31)).hexdigest()
+
+
+def sums_of_files(names: Sequence[str]) -> Dict[str, str]:
+    """The sums of those that are files: a pipe is read once."""
+    return {name: sha256_of(name) for name in names if os.path.isfile(name)}
+
+
+def refuse_changed(before: Mapping[str, str], what: str, rest: str = "nothing is written") -> None:
+    """Refuses files that haven't the sums from before: what was made is then of more than one file."""
+    changed = next((name for name, was in before.items() if sha256_of(name) != was), None)
+    if changed:
+        raise HullError(f"{changed} was changed meanwhile, so {what} of more than one file: {rest}")
 
 
 def scipy_version() -> str:

@@ -79,4 +79,6 @@ def read_output(name: Name, due: Union[type[Text], Sequence[str], None] = None) 
     else:
         data = bytes_of_file(name)
     refuse_others(shown, data)
-    return cast(Output, parse_output(shown, data, forms))
+    found = cast(Output, parse_output(shown, data, forms))
+    found.file = "" if shown is not name else found.name
+    return found

@@ -49,6 +49,18 @@ def unit_of(line: str, files: Files) -> Optional[str]:
     return files.name_of("case", GROUPS[kind], int(number))
 
 
+def place_of(line: str, files: Files) -> tuple[Optional[int], Optional[int]]:
+    """The byte of a file, from 0, and its line, from 1, that a fault line says; each is None where it isn't known."""
+    found = re.search(r"^fault \d+ (\w+) \d+ at (\d+)$", line)
+    if not found:
+        return None, None
+    what, at = found.group(1), int(found.group(2))
+    if what == "report":  # (its lines are counted, and not its bytes)
+        return None, at
+    data = files.bytes_of(what)
+    return at, data.count(b"\n", 0, at) + 1 if at <= len(data) else None
+
+
 def refusal(words: Sequence[str], status: int, output: bytes) -> HullError:
     """The error of a run that ended with a status other than 0."""
     line = one_line(output.decode("utf-8", "replace").strip())[:300]
@@ -59,4 +71,4 @@ def refusal(words: Sequence[str], status: int, output: bytes) -> HullError:
     except HullError:
         said = None
     number = int(code.group(1)) if code else None
-    return HullError(told, status, number, unit_of(line, files), period_of(line), said)
+    return HullError(told, status, number, unit_of(line, files), period_of(line), said, *place_of(line, files))

@@ -6,7 +6,7 @@ from typing import Optional
 from .apart import run_apart
 from .cases import Case
 from .commitment import Commitment, Flags
-from .errors import HullError
+from .errors import CannotBeMet, HullError
 from .fast_start import FastStart
 from .prices import Prices, prices_near
 from .schedules import Schedule
@@ -17,7 +17,8 @@ def dual_prices(model: Commitment, what: str) -> Prices:
     """The duals of balance and reserve as whole prices."""
     solved = model.program.solve_linear("highs-ds")
     if solved is None:
-        raise HullError(f"the solver finds no solution of {what}")
+        told = f"the solver finds no solution of {what}"
+        raise CannotBeMet(told) if model.program.is_infeasible else HullError(told)
     energy, reserve = model.prices(solved.duals)
     return prices_near([it * 1e3 for it in energy], [it * 1e3 for it in reserve])
 

@@ -2,24 +2,26 @@
 from __future__ import annotations
 
 import json
-from collections.abc import Callable, Container, Sequence
+from collections.abc import Callable, Sequence
 from dataclasses import dataclass
-from typing import TYPE_CHECKING, Any, cast
+from typing import TYPE_CHECKING, Any, Optional, Union, cast
 
 from .cases import Case, POWER, Unit
-from .json_texts import is_number, read_json
+from .json_texts import is_number, read_json, refused_as
 from .numbers import is_whole, Kilowatts
 from .errors import HullError, Name, one_line, write_whole
-from .options import member
+from .options import FieldsAlone, is_list, is_whole_number, member, told_value
 
 if TYPE_CHECKING:
+    from pandas import DataFrame
+
     from .inputs import GivenCase
 
 Fault = Callable[[str], HullError]  # makes the error of a text
 
 
 @dataclass
-class Plan:
+class Plan(FieldsAlone):
     """What one unit or bid is to do: an on flag, a power and a reserve for each period, in kilowatts."""
 
     on: list[int]
@@ -32,8 +34,24 @@ def flat_plan(power: list[Kilowatts]) -> Plan:
     return Plan([1] * len(power), power, [Kilowatts(0)] * len(power))
 
 
+PLAN = {"on": "", "power": "kilowatts", "reserve": "kilowatts"}  # its lists, and what their numbers count
+
+
+def written(kind: str, name: str, key: str, numbers: Any) -> list[int]:
+    """A list of a plan as its file has it. What a script has set may be an array, a series or whole floating numbers."""
+    where, of = f'the schedule given: {kind} "{one_line(name)}": {key}', PLAN[key]
+    if not is_list(numbers):
+        raise HullError(f"{where} is {told_value(numbers)}: a list of a number for each period is due", unit=name)
+    found = list(numbers)
+    wrong = next((t for t, number in enumerate(found, 1) if not is_whole_number(number)), None)
+    if wrong is not None:
+        due = f"a whole number{' of ' * bool(of)}{of} is due"
+        raise HullError(f"{where} of period {wrong} is {told_value(found[wrong - 1])}: {due}", unit=name, period=wrong)
+    return [int(number) for number in found]
+
+
 @dataclass(repr=False)
-class Schedule:
+class Schedule(FieldsAlone):
     """A plan for each unit and bid, by kind and name."""
 
     plans: dict[tuple[str, str], Plan]
@@ -42,18 +60,40 @@ class Schedule:
         periods = max((len(plan.on) for plan in self.plans.values()), default=0)
         return f"<Schedule: periods={periods}, units={len(self.plans)}>"
 
-    def plan(self, kind: str, name: str) -> Plan:
-        """The plan of a unit or bid. Raises `HullError` where there is none."""
+    def plan(self, kind: Optional[str] = None, name: Optional[str] = None) -> Plan:
+        """The plan of a unit or bid; a name of one kind needs no kind before it. Raises `HullError` where there is none."""
         return member(self.plans, kind, name, "the schedule")
 
+    def with_lists(self) -> Schedule:
+        """The schedule with lists where a script has set arrays or series, whose items have places and perhaps an index of their own."""
+        if all(isinstance(getattr(plan, key), list) for plan in self.plans.values() for key in PLAN):
+            return self
+        plans: dict[tuple[str, str], Plan] = {}
+        for (kind, name), plan in self.plans.items():
+            on, power, reserve = (written(kind, name, key, getattr(plan, key)) for key in PLAN)
+            plans[kind, name] = Plan(on, kilowatt_list(power), kilowatt_list(reserve))
+        return Schedule(plans)
+
     def as_json(self) -> dict[str, dict[str, Any]]:
+        """The form of its file. Lists may be arrays or series; raises `HullError` where one has what isn't a whole number."""
         found: dict[str, dict[str, Any]] = {"thermal": {}, "renewable": {}}
         for (kind, name), plan in self.plans.items():
             if kind == "thermal":
-                found[kind][name] = {"on": plan.on, "power": plan.power, "reserve": plan.reserve}
+                found[kind][name] = {key: written(kind, name, key, getattr(plan, key)) for key in PLAN}
             else:
-                found.setdefault("bids" if kind == "bid" else kind, {})[name] = plan.power
+                found.setdefault("bids" if kind == "bid" else kind, {})[name] = written(kind, name, "power", plan.power)
         return found
+
+    def frame(self) -> DataFrame:
+        """A row for each unit and period, as a data frame of pandas: `unit`, `period`, `on`, and in megawatts `power` and `reserve`, as `follow_schedule` takes it."""
+        from .tables import load_pandas
+
+        rows = [
+            (name, t, on, power / 1e3, reserve / 1e3)
+            for (_, name), plan in self.with_lists().plans.items()
+            for t, (on, power, reserve) in enumerate(zip(plan.on, plan.power, plan.reserve), 1)
+        ]
+        return load_pandas().DataFrame(rows, columns=["unit", "period", "on", "power", "reserve"])
 
     def text(self) -> str:
         return json.dumps(self.as_json(), ensure_ascii=False) + "\n"
@@ -97,16 +137,16 @@ def group_of(name: Name, value: dict[str, Any], key: str, units: set[str], neede
         raise HullError(f"{name}: no schedule: {key} isn't an object of lists by name")
     for unit in found:
         if unit not in units:
-            raise HullError(f'{name}: the case has no unit "{one_line(unit)}" under {key}')
+            raise HullError(f'{name}: the case has no unit "{one_line(unit)}" under {key}', unit=unit)
     for unit in units:
         if unit not in found:
-            raise HullError(f'{name}: the unit "{one_line(unit)}" of the case isn\'t under {key}')
+            raise HullError(f'{name}: the unit "{one_line(unit)}" of the case isn\'t under {key}', unit=unit)
     return found
 
 
 def teller_of(name: Name, kind: str, unit: Unit) -> Fault:
     """Makes errors that are told of the unit."""
-    return lambda what: HullError(f'{name}: {kind} "{one_line(unit.name)}": {what}')
+    return lambda what: HullError(f'{name}: {kind} "{one_line(unit.name)}": {what}', unit=unit.name)
 
 
 def plan_of(value: Any, kind: str, periods: int, told: Fault) -> Plan:
@@ -116,6 +156,7 @@ def plan_of(value: Any, kind: str, periods: int, told: Fault) -> Plan:
     return flat_plan(kilowatt_list(whole_numbers(value, periods, POWER, told)))
 
 
+@refused_as("schedule")
 def schedule_of(name: Name, value: Any, case: Case) -> Schedule:
     """The schedule of a JSON value for a case."""
     if not isinstance(value, dict):
@@ -133,11 +174,12 @@ def schedule_of(name: Name, value: Any, case: Case) -> Schedule:
     return Schedule(plans)
 
 
-def read_schedule(name: Name, case: GivenCase) -> Schedule:
-    """The schedule of a file for a case: for each unit and bid an on flag, a power and a reserve in each period, in whole kilowatts.
+def read_schedule(name: Union[Name, dict[str, Any]], case: GivenCase) -> Schedule:
+    """The schedule of a file, or of a dict as the file has it, for a case: for each unit and bid an on flag, a power and a reserve in each period, in whole kilowatts.
 
     The case is an object, a dict, or a file's name. Raises `HullError` where docs/FORMATS.md refuses the file, or where its units aren't those of the case. It may break a rule: see `check`.
     """
-    from .inputs import as_case
+    from .inputs import as_case, as_schedule
 
-    return schedule_of(name, read_json(name, "a schedule"), as_case(case))
+    read = as_case(case)
+    return as_schedule(name, read) if isinstance(name, dict) else schedule_of(name, read_json(name, "a schedule"), read)

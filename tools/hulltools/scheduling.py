@@ -2,23 +2,27 @@
 from __future__ import annotations
 
 import time
-from dataclasses import dataclass, replace
-from math import inf, isfinite
-from typing import Any, Callable, Dict, List, Optional, Sequence, Tuple
+from dataclasses import dataclass, field, replace
+from decimal import Decimal
+from math import floor, inf, isfinite
+from typing import Any, Callable, Dict, List, Optional, Sequence, Tuple, cast
 
 from .apart import run_apart
 from .cases import POWER, Case, Thermal
 from .commitment import Commitment, Flags
 from .costs import most_below_lines
+from .deviations import Deviation, deviations, farthest
 from .external_schedules import Followed
 from .impossible import units_that_bar, why_flags
 from .lint_units import clash
 from .linear import Solved, Term, was_cut_by_the_clock
+from .numbers import Millionths, in_currency
+from .options import counted
 from .progress import turn_to
 from .rounding import SLACK, Lists, Powers, reserves_of, whole_powers
 from .schedules import Plan, Schedule, flat_plan, kilowatt_list
 from .search_limits import SECONDS, SearchLimits
-from .errors import HullError, one_line
+from .errors import CannotBeMet, HullError, OverTime, one_line
 
 SECONDS_A_RULE = 20.0  # how long the solver looks for a schedule without a rule
 
@@ -28,39 +32,78 @@ def relative_gap(cost: float, bound: float) -> float:
     return max(0.0, cost - bound) / max(abs(cost), 1e-9)
 
 
-@dataclass
+@dataclass(repr=False)
 class Made:
-    """A schedule, and of a search the solver's own cost and bound, in the currency, its nodes, and the gap that was to be reached.
+    """A schedule, and of a search what it cost the solver, its nodes, and the gap that was to be reached.
 
-    The solver's costs are straight between the points of a curve; `below_lines` is how far below these a schedule's cost may be.
+    Where a schedule was followed, `deviations` are the powers and reserves that aren't its own, in kilowatts, the farthest first.
+    `solver_cost` and `solver_bound` are floating, in the currency, and None where no search was made. The solver's costs are straight between
+    the points of a curve; `below_lines` is how far below these a schedule's cost may be. `checked_cost` is what `hull check` says.
     """
 
     schedule: Schedule
-    cost: Optional[float] = None
-    bound: Optional[float] = None
+    solver_cost: Optional[float] = None
+    solver_bound: Optional[float] = None
     nodes: int = 0
     wanted_gap: float = 0.0
     below_lines: float = 0.0
+    checked_cost: Optional[Millionths] = None
+    deviations: List[Deviation] = field(default_factory=list)
+
+    def __repr__(self) -> str:
+        reached = f"farthest_mw={self.farthest_mw}"
+        if self.gap is not None:
+            reached = f"gap={self.gap:.6g}, is_near={self.is_near}, nodes={self.nodes}"
+        return f"<Made: schedule={self.schedule!r}, cost={self.checked_cost}, {reached}>"
 
     @property
-    def gap(self) -> float:
-        """By what share of its cost the solver's choice is above its bound, both by the solver's own numbers."""
-        return 0.0 if self.cost is None or self.bound is None else relative_gap(self.cost, self.bound)
+    def cost(self) -> Millionths:
+        """The schedule's cost in millionths, exact, as `hull check` finds it. Raises `HullError` where the schedule wasn't checked."""
+        if self.checked_cost is None:
+            raise HullError("the schedule wasn't checked, so its cost isn't known: `check` says it")
+        return self.checked_cost
 
     @property
-    def is_near(self) -> bool:
-        """Whether the gap is reached."""
-        return self.gap <= self.wanted_gap
+    def cost_in_currency(self) -> Decimal:
+        """The same in the currency, exact."""
+        return in_currency(self.cost)
+
+    @property
+    def bound(self) -> Optional[Millionths]:
+        """What no schedule costs less than, in millionths, by the solver's own numbers; None where it has no bound."""
+        lowest = self.lowest
+        return None if lowest is None else Millionths(floor(lowest * 1e6))
+
+    @property
+    def lowest(self) -> Optional[float]:
+        """The bound in the currency, below the straight lines of the solver's costs."""
+        is_known = self.solver_bound is not None and isfinite(self.solver_bound)
+        return cast(float, self.solver_bound) - self.below_lines if is_known else None
+
+    @property
+    def gap(self) -> Optional[float]:
+        """By what share of its cost the solver's choice is above its bound, both by the solver's own numbers; None where no search was made."""
+        is_known = self.solver_cost is not None and self.solver_bound is not None
+        return relative_gap(cast(float, self.solver_cost), cast(float, self.solver_bound)) if is_known else None
+
+    @property
+    def is_near(self) -> Optional[bool]:
+        """Whether the gap is reached; None where no search was made."""
+        return None if self.gap is None else self.gap <= self.wanted_gap
+
+    @property
+    def farthest_mw(self) -> Optional[float]:
+        """How far the power that is farthest from the followed one is from it, in megawatts; None where a search was made."""
+        return farthest(self.deviations, "power") / 1e3 if self.gap is None else None
 
     def told(self, cost: int) -> str:
         """What the search reached: how far the cost in millionths, which is what `hull check` says, is above a bound that holds for it."""
         near = "within" if self.is_near else f"the gap of {self.wanted_gap * 100:g} % is missed:"
-        nodes = f"{self.nodes} node{'s' * (self.nodes != 1)}"
-        if self.bound is None or not isfinite(self.bound):
+        nodes, lowest = counted(self.nodes, "node"), self.lowest
+        if lowest is None:
             return f"{near} the solver has no bound after {nodes}"
-        bound = self.bound - self.below_lines
         return (
-            f"{near} {relative_gap(cost / 1e6, bound) * 100:.4f} % of the solver's bound, {bound:,.2f}, after {nodes}"
+            f"{near} {relative_gap(cost / 1e6, lowest) * 100:.4f} % of the solver's bound, {lowest:,.2f}, after {nodes}"
         )
 
 
@@ -70,13 +113,12 @@ def refuse_contradictions(case: Case) -> None:
         found = clash(unit)
         if found:
             period, why, _ = found
-            raise HullError(
-                f'the case can\'t be met: in period {period} unit "{one_line(unit.name)}" can be neither on nor off: {why}'
-            )
+            told = f'in period {period} unit "{one_line(unit.name)}" can be neither on nor off: {why}'
+            raise CannotBeMet(f"the case can't be met: {told}", unit=unit.name, period=period)
 
 
-def why_not(case: Case) -> str:
-    """Why the case can't be met, as far as one period alone shows; an empty text where it doesn't."""
+def why_not(case: Case) -> Tuple[Optional[int], str]:
+    """In which period the case can't be met, and why, as far as one period alone shows; None and an empty text where it doesn't."""
     bounds = [it.on_bounds() for it in case.thermal]
     for t in range(case.periods):
         at_most = sum(it.most * high[t] for it, (_, high) in zip(case.thermal, bounds))
@@ -87,16 +129,14 @@ def why_not(case: Case) -> str:
         kept = sum((it.most - it.least) * high[t] for it, (_, high) in zip(case.thermal, bounds))
         told = f": in period {t + 1} the units "
         if most < case.demand[t]:
-            return f"{told}give at most {most / 1e3:g} MW, and demand is {case.demand[t] / 1e3:g} MW"
+            return t + 1, f"{told}give at most {most / 1e3:g} MW, and demand is {case.demand[t] / 1e3:g} MW"
         if least > case.demand[t] + buys:
-            return (
-                f"{told}give at least {least / 1e3:g} MW, and demand and bids take {(case.demand[t] + buys) / 1e3:g} MW"
-            )
+            taken = f"demand and bids take {(case.demand[t] + buys) / 1e3:g} MW"
+            return t + 1, f"{told}give at least {least / 1e3:g} MW, and {taken}"
         if kept < case.reserves[t]:
-            return (
-                f"{told}can keep at most {kept / 1e3:g} MW in reserve, and {case.reserves[t] / 1e3:g} MW are required"
-            )
-    return ""
+            required = f"{case.reserves[t] / 1e3:g} MW are required"
+            return t + 1, f"{told}can keep at most {kept / 1e3:g} MW in reserve, and {required}"
+    return None, ""
 
 
 def with_units(case: Case, **changed: Any) -> Case:
@@ -179,12 +219,12 @@ def searched(model: Commitment, limits: SearchLimits, until: float) -> Any:
     seconds = max(0.0, until - time.monotonic())
     found = model.program.solve(time_limit=seconds, mip_rel_gap=limits.gap, node_limit=limits.nodes)
     if found.status == 2:
-        raise HullError(f"the solver finds that the case can't be met{rules_that_bar(model.case, until)}")
+        raise CannotBeMet(f"the solver finds that the case can't be met{rules_that_bar(model.case, until)}")
     if was_cut_by_the_clock(found):
         reached = "no schedule was found"
         if found.x is not None:
             reached = f"the gap is {relative_gap(found.fun, found.mip_dual_bound) * 100:.4f} %"
-        raise HullError(
+        raise OverTime(
             f"the outer limit of {limits.seconds:g} s is over: {reached}, and {limits.gap * 100:g} % are to be reached. "
             "A schedule that the clock chose isn't taken: give --seconds or --gap more"
         )
@@ -196,8 +236,9 @@ def searched(model: Commitment, limits: SearchLimits, until: float) -> Any:
 def make_schedule(case: Case, limits: SearchLimits) -> Made:
     """A schedule whose cost is near the least: the same one wherever the solver is of the same version."""
     refuse_contradictions(case)
-    if why_not(case):
-        raise HullError(f"the case can't be met{why_not(case)}")
+    period, why = why_not(case)
+    if period is not None:
+        raise CannotBeMet(f"the case can't be met{why}", period=period)
     return run_apart(search, (case, limits), "searching for a schedule", limits.seconds)
 
 
@@ -260,7 +301,7 @@ def nearest(model: Commitment, wanted: Powers) -> Optional[Solved]:
     return program.solve_linear()
 
 
-def follow(case: Case, followed: Followed, name: str, seconds: float = SECONDS) -> Made:
+def follow(case: Case, followed: Followed, name: str, seconds: Optional[float] = SECONDS) -> Made:
     """A schedule with the commitments of one from elsewhere, in whole kilowatts: of those with powers as near as can be, the cheapest."""
     return run_apart(near_to, (case, followed, name), f"following {name}", seconds)
 
@@ -271,9 +312,12 @@ def near_to(case: Case, followed: Followed, name: str) -> Made:
     model.fix(flags)
     solved = nearest(model, wanted)
     if solved is None:
-        raise HullError(f"{name}: its commitments can't be met in this case: {why_flags(case, flags)}")
+        why = why_flags(case, flags)
+        told = f"{name}: its commitments can't be met in this case: {why.sentence}"
+        raise CannotBeMet(told, unit=why.unit, period=why.period)
     lists = whole_powers(case, flags, powers_found(model, solved.x), solved.value, wanted)
     if lists is None:
         raise HullError(f"{name}: no whole kilowatts near its powers balance")
     kept = {i: followed.reserve[it.name] for i, it in enumerate(case.thermal) if it.name in followed.reserve}
-    return Made(schedule_of(case, flags, lists, reserves_of(case, flags, lists[0], kept)))
+    schedule = schedule_of(case, flags, lists, reserves_of(case, flags, lists[0], kept))
+    return Made(schedule, deviations=deviations(schedule, followed))

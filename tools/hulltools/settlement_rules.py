@@ -3,7 +3,7 @@ from dataclasses import dataclass
 from typing import Dict, List
 
 from .cases import Case, Thermal, Unit
-from .cash_flows import KINDS, UnitFlows, by_kind, total
+from .cash_flows import UnitFlows, by_kind, total
 from .numbers import Millionths
 from .outputs import Owed, Settlement
 

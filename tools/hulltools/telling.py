@@ -6,7 +6,7 @@ import shutil
 import sys
 import threading
 import time
-from collections.abc import Iterable
+from collections.abc import Callable, Iterable
 
 CLEAR = "\r\x1b[K"
 
@@ -70,3 +70,21 @@ class Teller:
             return sys.stderr.isatty() and os.environ.get("TERM", "dumb") != "dumb"
         except (ValueError, AttributeError):
             return False
+
+
+class Caller(Teller):
+    """Says lines to a function that somebody gave, one after another, and nothing at a terminal."""
+
+    is_at_terminal = False
+
+    def __init__(self, tell: Callable[[object], None]) -> None:
+        super().__init__("")
+        self.tell = tell
+
+    def __call__(self, text: object) -> None:
+        self.told_at = time.monotonic()
+        with self.lock:
+            self.tell(one_line(text))
+
+    def hide(self) -> None:
+        """Nothing is shown."""

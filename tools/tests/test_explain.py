@@ -1,15 +1,31 @@
 """tools/explain.py: fault lines in words, with the unit's name, what was found and what is due."""
+import contextlib
+import glob
+import io
 import os
+import runpy
 import shutil
 import subprocess
 import sys
 import tempfile
 import time
 import unittest
+from unittest import mock
 
 from tool import EXAMPLES, ROOT, run
 
 EVENING = f"{EXAMPLES}/evening"
+
+
+class NoMemory:
+    """A finder of modules for one of which there is no memory."""
+
+    def __init__(self, name):
+        self.name = name
+
+    def find_spec(self, name, path=None, target=None):
+        if name == self.name:
+            raise MemoryError
 
 
 class Explain(unittest.TestCase):
@@ -402,6 +418,12 @@ class Harmful(unittest.TestCase):
         for line in (f"fault 1 words 2 {'9' * 5000}", f"fault 3 case 10 at {'1' * 5000}"):
             self.assertIn("this is no fault line of hull", self.explained(line))
 
+    def test_a_unit_or_place_of_twenty_digits(self):
+        many, words = "9" * 20, [f"{EVENING}/case.json", f"{EVENING}/schedule.json"]
+        for line in (f"fault 4 schedule 40 kind thermal unit {many} item 0", f"fault 3 case 10 at {many}"):
+            status, text, said = run("explain.py", *words, input=f"{line}\n")
+            self.assertEqual((status, text.count("\n"), said), (0, 1, ""), line)
+
     def test_a_file_of_hundreds_of_levels(self):
         for levels in (100, 500, 900, 5000):
             deep = b'{"time_periods":' + b"[" * levels + b"]" * levels + b"}"
@@ -430,9 +452,29 @@ class Harmful(unittest.TestCase):
             command = f"echo fault 7 memory | {tool} {to}"
             self.assertEqual(self.shell(command), (1, f"explain.py: {why}\n"))
         self.assertEqual(self.shell(f"{tool} --help >/dev/full"), (1, f"explain.py: {why}\n"))
-        for name, words in (("lint", "none"), ("convert", "none none.json"), ("compare", "none none")):
+        for name, words, status in (("lint", "none", 6), ("convert", "none none.json", 1), ("compare", "none none", 1)):
             command = f"{tool.replace('explain', name)} {words} >&-"
-            self.assertEqual(self.shell(command), (1, f"{name}.py: standard output is closed\n"))
+            self.assertEqual(self.shell(command), (status, f"{name}.py: standard output is closed\n"))
+        lint = f"{tool.replace('explain', 'lint')} {EXAMPLES}/usual/case.json >/dev/full"
+        self.assertEqual(self.shell(lint), (6, "lint.py: standard output: No space left on device\n"))
+
+    def test_no_memory(self):
+        """Neither for the package nor for the work; lint.py has another status for it than for its answers."""
+        with mock.patch("hulltools.commands.lint.look", side_effect=MemoryError):
+            self.assertEqual(run("lint.py", "case.json"), (7, "", "lint.py: no memory\n"))
+        names = sorted(os.path.basename(it) for it in glob.glob(f"{ROOT}/tools/*.py"))
+        self.assertGreater(len(names), 10)
+        for name in names:
+            said, loaded = io.StringIO(), f"hulltools.commands.{name[:-3]}"
+            with contextlib.redirect_stderr(said), mock.patch.dict(sys.modules), mock.patch.object(
+                sys, "meta_path", [NoMemory(loaded), *sys.meta_path]
+            ):
+                sys.modules.pop(loaded, None)
+                with self.assertRaises(SystemExit) as ended:
+                    runpy.run_path(f"{ROOT}/tools/{name}", run_name="__main__")
+            self.assertEqual(
+                (ended.exception.code, said.getvalue()), (7 if name == "lint.py" else 1, f"{name}: no memory\n")
+            )
 
     @staticmethod
     def shell(command):

@@ -33,7 +33,23 @@ class Names(unittest.TestCase):
         given = {97: text, "97": text, "other": text}
         self.assertEqual([it.name for it in texts_of(given)], ["97", "97 2", "other"])
         self.assertEqual(text.name, f"{EXAMPLES}/usual/price.output")
+        self.assertEqual([it.name for it in texts_of(text)], ["price.output"])
+        text.name = "day 1"
         self.assertIs(texts_of(text)[0], text)
+
+    def test_a_text_of_a_file_has_its_name_without_folders(self):
+        usual, windows = (f"{EXAMPLES}/{it}/price.output" for it in ("usual", "windows"))
+        bound = f"{EXAMPLES}/two_units/bound.output"
+        for given, due in (
+            (usual, ["price.output"]),
+            ([usual, bound], ["price.output", "bound.output"]),
+            ([usual, windows, bound], [usual, windows, "bound.output"]),
+            ([usual, usual], ["price.output", "price.output 2"]),
+            ({usual: usual}, [usual]),
+        ):
+            self.assertEqual([it.name for it in texts_of(given)], due)
+        table = hulltools.read_output(usual).tables()["runs"]
+        self.assertEqual(table.rows[0][table.heads.index("report")], "price.output")
 
     def test_what_is_no_text_is_told(self):
         for given in (3, None, [{}], {"a": 1}):
@@ -122,11 +138,13 @@ class Beside(unittest.TestCase):
             self.refused(both, text, self.case, self.other("thermal"))
 
     def test_what_is_out_of_form(self):
-        for kind, member in (("renewable", "most"), ("thermal", "points")):
+        short = "^what is given beside hull settle is out of form: a list is too short$"
+        empty = '^the case given: renewable "REN001": most has 0 items, and the case 24 periods$'
+        for kind, member, due in (("renewable", "most", empty), ("thermal", "points", short)):
             case = copy.deepcopy(self.case)
             for unit in getattr(case, kind):
                 setattr(unit, member, [])
-            self.refused("^what is given beside hull settle is out of form: a list is too short$", self.settled, case)
+            self.refused(due, self.settled, case)
         other = copy.deepcopy(self.schedule)
         next(iter(other.plans.values())).on.pop()
         self.refused("it has 23 periods, and the text has 24$", self.settled, None, other)

@@ -79,7 +79,25 @@ class Install(unittest.TestCase):
             self.assertRegex(text, r"\A\d+\n\Z")
         status, text, said = self.call("python", "-c", check)
         self.assertEqual((status, text), (1, ""))
+        self.assertIn(
+            "no `hull` is on the path: give its place as `hull=` or `Hull(place)`, or in the variable HULL", said
+        )
+        self.assertNotIn("--hull", said)
+        status, text, said = self.call("hull-settle-zones", *EVENING, EVENING[0])
         self.assertIn("no `hull` is on the path: give its place by --hull, or in the variable HULL", said)
+
+    def test_the_first_session_of_the_page_runs_as_it_is_written(self) -> None:
+        """docs/PYTHON.md: what its section of installing sets, and PYTHONPATH without an installation, in the folder of the examples."""
+        with open(f"{ROOT}/docs/PYTHON.md", encoding="utf-8") as page:
+            session, install = re.findall(r"```sh\n(.*?)```", page.read(), re.S)[:2]
+        for line in ("python3 -m venv --system-site-packages V", "V/bin/pip install ./tools", "export HULL=$PWD/hull"):
+            self.assertIn(line, install.split("\n"))
+        code = 'import hulltools\nprint(hulltools.settle("usual/case.json", "usual/schedule.json", hulltools.per_mwh(98)).payments)\n'
+        set_up = f"cd {ROOT!r}; export HULL=$PWD/hull; cd examples; {self.bin}/python3"
+        for words in (set_up, session.strip()):
+            how = {"input": code, "capture_output": True, "text": True, "cwd": EXAMPLES, "timeout": 300}
+            ran = subprocess.run(["sh", "-c", f"{words} -B -"], env=self.env(), **how)
+            self.assertEqual((ran.returncode, ran.stdout, ran.stderr), (0, "164000000\n", ""), words)
 
     def test_commands_read_and_write(self) -> None:
         ran = subprocess.run([PROGRAM, "price", "--case", EVENING[0], "--schedule", EVENING[1]], capture_output=True)

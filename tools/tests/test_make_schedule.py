@@ -53,6 +53,22 @@ class MakeSchedule(unittest.TestCase):
                 self.cost(case, f"{EXAMPLES}/{example}/schedule.json"),
             )
 
+    def test_a_case_that_is_changed_meanwhile_is_refused(self):
+        case, program = f"{self.room}/case.json", f"{self.room}/hull"
+        shutil.copyfile(f"{EXAMPLES}/usual/case.json", case)
+        with open(program, "w", encoding="utf-8") as file:
+            file.write(f'#!/bin/sh\necho >>"{case}"\nexec "{PROGRAM}" "$@"\n')
+        os.chmod(program, 0o755)
+        words = (case, f"{self.room}/schedule.json", "--hull", program)
+        due = f"{case} was changed meanwhile, so search and check are of more than one file: "
+        status, _, said = run("make_schedule.py", *words, python=self.python)
+        self.assertEqual((status, said.splitlines()[-1]), (1, f"make_schedule.py: {due}no schedule is written"))
+        self.assertFalse(os.path.exists(f"{self.room}/schedule.json"))
+        call = f"import hulltools\nhulltools.make_schedule({case!r}, hull={program!r})"
+        here = {**os.environ, "PYTHONPATH": f"{ROOT}/tools"}
+        ran = subprocess.run([self.python, "-B", "-c", call], capture_output=True, text=True, env=here)
+        self.assertIn(f"{due}there is no schedule", ran.stderr)
+
     def test_least_costs_of_the_scarf_example(self):
         for demand, least in ((20, 129), (100, 634), (150, 959)):
             case = f"{EXAMPLES}/scarf/{demand}.case.json"
@@ -202,6 +218,13 @@ class MakeSchedule(unittest.TestCase):
                 "make_schedule.py: hull refuses the case: fault 3 case 29 field must_run kind thermal unit 1 item 0 (docs/FAULTS.md)\n",
             ),
         )
+
+    def test_a_name_that_is_not_utf8_is_told(self):
+        """The program would end with status 7 and say nothing."""
+        name = os.fsdecode(os.fsencode(self.room) + b"/\xff.json")
+        shutil.copyfile(f"{EXAMPLES}/evening/case.json", name)
+        due = f"make_schedule.py: {self.room}/?.json: this isn't UTF-8, and the program takes no other words\n"
+        self.assertEqual(self.make(name), (1, "", due))
 
     def test_other_troubles_are_told_in_one_line(self):
         for words in ([f"{self.room}/none.json"], [f"{EXAMPLES}/first/case.json", "--hull", "/nowhere/hull"]):

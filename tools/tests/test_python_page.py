@@ -1,8 +1,14 @@
 """The tables of docs/PYTHON.md are what the code has: calls, defaults, parameters, types, members and columns."""
 import ast
+import dataclasses
+import doctest
 import inspect
+import os
 import re
+import shutil
+import subprocess
 import sys
+import tempfile
 import textwrap
 import typing
 import unittest
@@ -135,12 +141,17 @@ class Calls(unittest.TestCase):
         for row, takes in rows_below("| Type | What it may be |"):
             kind = CODE.findall(row)[0]
             parts = typing.get_args(getattr(inputs, kind, None)) if kind.startswith("Given") else ()
-            due = {names.get(inspect.formatannotation(part), getattr(part, "__name__", "")) for part in parts}
+            due = {names.get(inspect.formatannotation(part), name_of(part)) for part in parts}
             if parts:
                 told, has, more = takes.partition(", or what has")
                 self.assertEqual(set(CODE.findall(told)) | {f"Has{word}" for word in has_of(more)}, due, kind)
                 checked += 1
-        self.assertEqual(checked, 5)
+        self.assertEqual(checked, 6)
+
+
+def name_of(part):
+    """The name of a type, also of one that is named by a text alone."""
+    return getattr(part, "__forward_arg__", getattr(part, "__name__", ""))
 
 
 def has_of(text):
@@ -161,12 +172,93 @@ class Members(unittest.TestCase):
         rows = rows_below("| Type | Members |")
         self.assertGreater(len(rows), 8)
         for types, told in rows:
-            names = [re.match(r"\w+", code)[0] for code in CODE.findall(told)]
+            names = [re.match(r"\w+", code)[0] for code in CODE.findall(told) if code not in hulltools.__all__]
             for name in CODE.findall(types):
                 kind = getattr(hulltools, name)
                 told_types = (getattr(base, "__annotations__", {}) for base in kind.__mro__)
                 known = {*dir(kind), *(member for types_told in told_types for member in types_told)}
                 self.assertEqual([member for member in names if member not in known], [], name)
+
+    def test_members_that_may_be_none_are_told(self):
+        rows = {name: told for types, told in rows_below("| Type | Members |") for name in CODE.findall(types)}
+        checked = 0
+        for name, kind in (("Made", hulltools.Made), ("Study", hulltools.Study), ("GapParts", hulltools.GapParts)):
+            getters = {key: it.fget.__annotations__["return"] for key, it in vars(kind).items() if is_getter(it)}
+            types = {**{field.name: field.type for field in dataclasses.fields(kind)}, **getters}
+            for member in (key for key, given in types.items() if "Optional[" in str(given)):
+                if f"`{member}" in rows[name]:
+                    self.assertRegex(rows[name].partition(f"`{member}")[2], "^[^;]*None where|None without", member)
+                    checked += 1
+        self.assertEqual(checked, 11)
+
+
+def is_getter(member):
+    return isinstance(member, property) and "return" in member.fget.__annotations__
+
+
+class Faults(unittest.TestCase):
+    """The table of what a script may branch on has the faults of docs/FAULTS.md."""
+
+    def test_each_status_has_its_word_and_its_codes(self):
+        with open(f"{ROOT}/docs/FAULTS.md", encoding="utf-8") as text:
+            lines = set(re.findall(r"`fault (\d+) (\w+)(?: (\d+)\b)?", text.read()))
+        # (6 ends no call, since its output is a pipe, and 8 is of a report, which no call gives)
+        due = {(status, word, code if word not in ("work", "memory") else "") for status, word, code in lines}
+        due = {it for it in due if it[0] not in ("6", "8")}
+        told = {}
+        for status, line, _, codes in rows_below("| `status` | The fault line begins | What is refused | `code` |"):
+            if line:
+                told[tuple(CODE.findall(line)[0].split()[1:])] = codes_of(codes)
+                self.assertEqual(CODE.findall(line)[0].split()[1], status)
+        self.assertEqual(set(told), {it[:2] for it in due})
+        missing = {it for it in due if it[2] and int(it[2]) not in told[it[:2]]}
+        self.assertEqual(missing, set())
+
+
+def codes_of(cell):
+    """The codes of a cell, as `10 to 13, 32`."""
+    found = set()
+    for first, last in re.findall(r"(\d+)(?: to (\d+))?", cell):
+        found.update(range(int(first), int(last or first) + 1))
+    return found
+
+
+class Types(unittest.TestCase):
+    """What the page has of Python is what a type checker takes, each part by itself."""
+
+    def test_the_page_is_taken_by_mypy(self):
+        mypy = shutil.which("mypy")
+        if mypy is None:
+            self.skipTest("there is no mypy here")
+        text = page()
+        parts = re.findall(r"```python\n(.*?)```", text, re.S)
+        parts += ["".join(example.source for example in it) for it in sessions(text)]
+        self.assertGreater(len(parts), 15)
+        given = 'import hulltools\nfiles = ("a", "b")\ncase = hulltools.read_case("a")\n'
+        with tempfile.TemporaryDirectory(prefix="hull-page-") as room:
+            for place, part in enumerate(parts):
+                with open(f"{room}/part_{place}.py", "w", encoding="utf-8") as file:
+                    file.write(given + part)
+            words = ["--strict", "--no-site-packages", "--ignore-missing-imports", "--disable-error-code=name-defined"]
+            ran = subprocess.run(
+                [mypy, "--cache-dir", f"{room}/cache", "--config-file", os.devnull, *words, room],
+                env={**os.environ, "MYPYPATH": f"{ROOT}/tools"},
+                capture_output=True,
+                text=True,
+                check=False,
+            )
+        self.assertEqual(ran.returncode, 0, ran.stdout + ran.stderr)
+
+
+def sessions(text):
+    """The examples of a page, those together that no prose parts."""
+    found, end = [], -1
+    for example in doctest.DocTestParser().get_examples(text):
+        if example.lineno != end:
+            found.append([])
+        found[-1].append(example)
+        end = example.lineno + example.source.count("\n") + example.want.count("\n")
+    return found
 
 
 class Columns(unittest.TestCase):
@@ -190,12 +282,19 @@ class Columns(unittest.TestCase):
         told = re.search(r"With `money=\"millionths\"` the ends are\s+([^.]+)\.", page())
         self.assertEqual({f"`{end}`" for end in CODE.findall(told[1])}, ends)
 
+    def test_each_column_is_explained(self):
+        told = [name for cell, _ in rows_below("| Column | What it is |") for name in CODE.findall(cell)]
+        due = {head.partition(":")[0] for heads in HEADS.values() for head in heads.split()}
+        self.assertEqual(set(told) - {"prices", "responses"}, due)
+        self.assertEqual(sorted(name for name in told if told.count(name) > 1), ["reserve", "reserve"])
+
     def test_frames_of_a_study(self):
         case = hulltools.read_case(f"{EXAMPLES}/usual/case.json")
         versions = dict.fromkeys(("hull", "python", "scipy", "highs"), "")
         origin = Provenance("case", "", Source("schedule", "", ""), None, versions, "", "")
         study = studies.Study(case, hulltools.Schedule({}), studies.Wanted(), origin, 0)
-        tables = {"lists": lists_table(study, with_keys=True), "units": units_table(study), "hours": hours_table(study)}
+        makers = {"lists": lists_table, "units": units_table, "hours": hours_table}
+        tables = {name: table(study, with_keys=True) for name, table in makers.items()}
         zonal = zones.Zonal(zones.Zones({}, {}), {}, [])
         self.check_frames("Frame of a study", {**tables, "Zonal.frame()": zonal_table(zonal)})
 

@@ -1,6 +1,9 @@
 """What the package refuses by itself, before the program is started: with a sentence that names the value and what is due."""
+import copy
+import hashlib
 import json
 import os
+import pickle
 import subprocess
 import sys
 import tempfile
@@ -215,6 +218,24 @@ class Keys(Refusals):
         ):
             hulltools.settle_zones(*USUAL, zones, PROGRAM)
 
+    def test_a_prices_file_with_a_misspelt_reserve_is_refused(self):
+        with tempfile.TemporaryDirectory(prefix="hull-refused-") as room:
+            name = f"{room}/prices.json"
+            for rest, misspelt in (
+                ('"reserves": [5]', "reserves"),
+                ('"Reserve": [5]', "Reserve"),
+                ('"source": 1, "resrve": [5]', "resrve"),
+                ('"source": 1', None),
+                ('"reserve": [5], "reserves": 1', None),
+            ):
+                with open(name, "w", encoding="utf-8") as file:
+                    file.write(f'{{"energy": [98], {rest}}}')
+                if not misspelt:
+                    self.assertEqual(hulltools.read_prices(name).energy, [98_000])
+                    continue
+                due = f"{name}: `{misspelt}` is no key of it: is `reserve` meant?"
+                self.assertEqual(self.refused(due, hulltools.read_prices, name).status, 9)
+
     def test_of_a_case_it_is_warned(self):
         _, case = usual()
         with warnings.catch_warnings():
@@ -230,8 +251,10 @@ class Keys(Refusals):
 
 class Options(Refusals):
     def test_numbers_beside_files(self):
-        prices = hulltools.per_mwh(98)
-        radius = "a whole number from 0 to 20,000,000 is due"
+        program, prices = hulltools.Hull(PROGRAM), hulltools.per_mwh(98)
+        radius = (
+            "a whole number from 0 to 20,000,000 is due, in millionths per kilowatt: 1000 is 1.00 per MW and period"
+        )
 
         def certify(**how):
             return lambda: hulltools.certify(*USUAL, prices, MIXTURE, hull=PROGRAM, **how)
@@ -247,6 +270,9 @@ class Options(Refusals):
                 (certify(radius=1.0), f"radius is 1.0: {radius}"),
                 (certify(radius=-1), f"radius is -1: {radius}"),
                 (certify(radius=True), f"radius is True: {radius}"),
+                (lambda: program.certify(*USUAL, prices, MIXTURE, radius=0.5), f"radius is 0.5: {radius}"),
+                (lambda: program.price(*USUAL, proposals=0), "proposals is 0: a whole number from 1 to 10,000 is due"),
+                (lambda: program.price(*USUAL, ahead=17), "ahead is 17: a whole number from 1 to 16 is due"),
                 (price(proposals=0), "proposals is 0: a whole number from 1 to 10,000 is due"),
                 (price(ahead=20), "ahead is 20: a whole number from 1 to 16 is due"),
                 (convex(rounds=0), "rounds is 0: a whole number from 1 to 1,000 is due"),
@@ -316,12 +342,103 @@ class Options(Refusals):
         case.demand = [8500.0]
         self.assertIn('"demand": [8.5]', case.text())
 
+    def test_a_name_that_is_no_member_is_not_set(self):
+        case, _ = usual()
+        schedule = hulltools.read_schedule(USUAL[1], case)
+        bid = hulltools.Bid("B", [[]])
+        for holder, name, meant in (
+            (case, "reserve", "reserves"),
+            (case.thermal[0], "mustrun", "must_run"),
+            (case.renewable[0], "mots", "most"),
+            (bid, "block", "blocks"),
+            (hulltools.per_mwh([30]), "enrgy", "energy"),
+            (hulltools.per_mwh(30), "enrgy", "energy"),
+            (hulltools.Mixture(1, {}), "wieght", "weight"),
+            (schedule, "plan", "plans"),
+            (schedule.plan("G1"), "powers", "power"),
+        ):
+            kind = type(holder).__name__
+            due = f"`{kind}` has no member `{name}` to set: is `{meant}` meant?"
+            self.refused(due, setattr, holder, name, [8000])
+            self.assertNotIn(name, vars(holder))
+        self.assertEqual(pickle.loads(pickle.dumps(case)), case)
+        self.assertEqual(copy.deepcopy(schedule), schedule)
+
+    def test_a_unit_is_found_by_keywords(self):
+        case, _ = usual()
+        report = hulltools.read_output(f"{EXAMPLES}/usual/price.output", hulltools.Report)
+        schedule = hulltools.read_schedule(USUAL[1], case)
+        for find in (case.unit, report.unit, schedule.plan):
+            self.assertIs(find(name="G1"), find("thermal", "G1"))
+            self.assertIs(find(kind="thermal", name="G1"), find("G1"))
+            with self.assertRaisesRegex(HullError, ": the name of a unit or bid is due$"):
+                find()
+
     def test_the_program_is_told_from_a_name(self):
         with self.assertRaises(HullError) as found:
             hulltools.settle(*USUAL, hulltools.per_mwh([98]), "Posted")
         due = "Posted: No such file or directory: `hull` is the place of the program, and `name` names a settlement"
         self.assertEqual((str(found.exception), found.exception.line), (due, "Posted: No such file or directory"))
         self.assertEqual(hulltools.Hull(PROGRAM).settle(*USUAL, hulltools.per_mwh(98), name="Posted").name, "Posted")
+
+
+class OfAProgram(unittest.TestCase):
+    """A `Hull` takes what the functions take, and words of the program besides."""
+
+    def test_numbers_go_as_they_do_to_the_functions(self):
+        program, given = hulltools.Hull(PROGRAM), (*USUAL, hulltools.per_mwh(98), MIXTURE)
+        due = hulltools.certify(*given, radius=1000, hull=PROGRAM)
+        self.assertEqual((due.radius, program.certify(*given, radius=1000)), (1000, due))
+        self.assertEqual(program.certify(*given, "--radius", 1000), due)
+        self.assertEqual(program.certify(*given), hulltools.certify(*given, hull=PROGRAM))
+        report = hulltools.price(*USUAL, proposals=3, ahead=2, hull=PROGRAM)
+        self.assertEqual((report.budget, report.ahead), (3, 2))
+        self.assertEqual(program.price(*USUAL, proposals=3, ahead=2), report)
+        self.assertEqual(program.price(*USUAL, "--proposals", "3", ahead=2), report)
+
+    def test_another_program_behind_a_launcher_has_other_sums(self):
+        with tempfile.TemporaryDirectory(prefix="hull-program-") as room:
+            for behind in ("bin/hull", "dist/linux-x86_64/hull"):
+                place = os.path.realpath(f"{room}/{behind}")
+                os.makedirs(os.path.dirname(place))
+                found = []
+                for text in ("one", "another"):
+                    for name, script in ((f"{room}/hull", "#!/bin/sh\necho hull 1\n"), (place, text)):
+                        with open(name, "w", encoding="utf-8") as file:
+                            file.write(script)
+                    os.chmod(f"{room}/hull", 0o755)
+                    program = hulltools.Hull(f"{room}/hull")
+                    self.assertEqual(program.files()[-1], place)
+                    found.append(program.sums())
+                    self.assertEqual(found[-1][0], "1")
+                self.assertEqual((len(found[0]), found[0] == found[1]), (3, False))
+                os.remove(place)
+
+    def test_the_mark_of_an_audit_has_the_sum_of_what_a_launcher_runs(self):
+        script = f"""import os, sys
+from types import SimpleNamespace
+sys.path.insert(0, {f"{ROOT}/workflow/scripts"!r})
+import step
+step.mark_audit(SimpleNamespace(name="d", settings=SimpleNamespace(audits="marks", program=os.path.realpath("hull"))),
+                dict.fromkeys(step.STEPS["audit"].takes, "0"))
+"""
+        with tempfile.TemporaryDirectory(prefix="hull-program-") as room:
+            os.mkdir(f"{room}/bin")
+            for name in ("hull", "bin/hull"):
+                with open(f"{room}/{name}", "w", encoding="utf-8") as file:
+                    file.write(name)
+            os.chmod(f"{room}/hull", 0o755)
+            subprocess.run([sys.executable, "-B", "-c", script], cwd=room, check=True)
+            (mark,) = os.listdir(f"{room}/marks")
+            with open(f"{room}/marks/{mark}", encoding="utf-8") as file:
+                lines = file.read().splitlines()
+        for name in ("hull", "bin/hull"):
+            place, due = os.path.realpath(f"{room}/{name}"), hashlib.sha256(name.encode()).hexdigest()
+            self.assertIn(f"sum of {place}: {due}", lines)
+
+    def test_convex_has_the_name_of_the_function_too(self):
+        program = hulltools.Hull(PROGRAM)
+        self.assertEqual(program.convex_prices(*USUAL, rounds=5), program.convex(*USUAL, rounds=5))
 
 
 class Words(Refusals):
@@ -484,6 +601,99 @@ class Readers(Refusals):
         self.refused("1.5 is no whole number, as an amount in millionths is", hulltools.in_currency, 1.5)
 
 
+class NoJson(unittest.TestCase):
+    """A reader refuses a text with the code, the place and the words that the program has."""
+
+    def setUp(self):
+        folder = tempfile.TemporaryDirectory(prefix="hull-refused-")
+        self.addCleanup(folder.cleanup)
+        self.name = f"{folder.name}/file.json"
+
+    def error_of(self, call):
+        with self.assertRaises(HullError) as found:
+            call()
+        return found.exception
+
+    def parts(self, error):
+        return error.status, error.code, error.at_byte, error.at_line, error.sentence
+
+    def check_texts(self, what, read, ask, texts):
+        for text in texts:
+            with self.subTest(what, text=text[:40], size=len(text)):
+                with open(self.name, "wb") as file:
+                    file.write(text)
+                by_reader, by_program = self.error_of(read), self.error_of(ask)
+                self.assertEqual(self.parts(by_reader), self.parts(by_program))
+                self.assertIsNotNone(by_reader.code)
+                self.assertTrue(by_reader.line.endswith(by_program.line.partition(": ")[2]), by_reader.line)
+
+    def test_readers_refuse_as_the_program_does(self):
+        case = hulltools.read_case(USUAL[0])
+        rows = (
+            ("case", USUAL[0], lambda: hulltools.read_case(self.name), lambda: self.check(self.name, USUAL[1])),
+            (
+                "schedule",
+                USUAL[1],
+                lambda: hulltools.read_schedule(self.name, case),
+                lambda: self.check(USUAL[0], self.name),
+            ),
+            ("prices", f"{EXAMPLES}/certified/prices.json", lambda: hulltools.read_prices(self.name), self.settle),
+            ("mixture", MIXTURE, lambda: hulltools.read_mixture(self.name, case), self.certify),
+        )
+        for what, whole, read, ask in rows:
+            with open(whole, "rb") as file:
+                data = file.read()
+            half = len(data) // 2
+            first, rest = data[:half], data[half:]
+            texts = [
+                b"",
+                b"\n\n",
+                first,
+                data[:-3],
+                first + b"\xff" + rest,
+                b"\xef\xbb\xbf" + data,
+                b"[" * 40,
+                b"# A page",
+            ]
+            texts += [
+                b'{"a": 1, "a": 2}',
+                b'{"a": ' + b"9" * 31 + b"}",
+                b'{"a": 1e401}',
+                b'{"a": "\\ud800"}',
+                b'{\n"a": 1,5}',
+            ]
+            self.check_texts(what, read, ask, texts)
+
+    def check(self, case, schedule):
+        return hulltools.check(case, schedule, hull=PROGRAM)
+
+    def settle(self):
+        return hulltools.settle(*USUAL, self.name, hull=PROGRAM)
+
+    def certify(self):
+        return hulltools.certify(*USUAL, hulltools.per_mwh(98), self.name, hull=PROGRAM)
+
+    def test_zones_have_a_code_and_a_place_too(self):
+        with open(self.name, "w", encoding="utf-8") as file:
+            file.write('{"zones":\n {]')
+        error = self.error_of(lambda: hulltools.settle_zones(*USUAL, self.name, hull=PROGRAM))
+        self.assertEqual(self.parts(error)[:4], (None, 10, 12, 2))
+        self.assertIn(": byte 12, line 2, column 3", error.sentence)
+
+    def test_a_line_of_a_report_is_told(self):
+        with open(self.name, "w", encoding="utf-8") as file:
+            file.write("hull-report 1\n")
+        words = ("audit", "--case", USUAL[0], "--schedule", USUAL[1], "--report", self.name)
+        error = self.error_of(lambda: hulltools.Hull(PROGRAM).text(*words))
+        self.assertEqual((error.status, error.code, error.at_byte, error.at_line), (8, 60, None, 2))
+
+    def test_a_file_that_is_too_large_has_its_code(self):
+        with open(self.name, "wb") as file:
+            file.truncate(67_108_865)
+        self.assertEqual(self.error_of(lambda: hulltools.read_case(self.name)).code, 32)
+        self.assertEqual(self.error_of(lambda: self.check(self.name, USUAL[1])).code, 32)
+
+
 class Texts(Refusals):
     def test_a_settlement_is_written_as_it_was_printed(self):
         settled = hulltools.settle(*USUAL, hulltools.per_mwh(98), hull=PROGRAM)
@@ -506,6 +716,171 @@ class Texts(Refusals):
         self.assertEqual((told.units, told.unit_count), (2, 2))
         bound = hulltools.read_output(f"{EXAMPLES}/two_units/bound.output", hulltools.Bound)
         self.assertEqual(bound.proposal_count, bound.proposals)
+
+
+class Array(list):
+    """A list of a kind of its own, as a series is one."""
+
+
+class Members(Refusals):
+    """What a script sets or asks of a case, and what readers say of units and periods."""
+
+    def test_lists_of_another_length(self):
+        for name in ("demand", "reserves"):
+            case = usual()[0]
+            setattr(case, name, [8000, 8000])
+            self.refused(
+                f"the case given: {name} has 2 items, and the case 1 period", hulltools.integer_relaxation, case
+            )
+        case = usual()[0]
+        case.renewable[0].least = []
+        due = 'the case given: renewable "W1": least has 0 items, and the case 1 period'
+        self.assertEqual(self.refused(due, hulltools.integer_relaxation, case).unit, "W1")
+
+    def test_units_of_a_case(self):
+        case, given = usual()
+        self.assertIs(case.unit("thermal", "G1"), case.thermal[0])
+        self.assertIs(case.unit("renewable", "W1"), case.renewable[0])
+        self.refused('the case has no thermal unit "G2": known: `G1`', case.unit, "thermal", "G2")
+        self.refused("the case has no kind wind: known: `thermal`, `renewable`", case.unit, "wind", "W1")
+        self.assertEqual(hulltools.read_case(given), case)
+
+    def test_a_name_of_one_kind_needs_no_kind(self):
+        case, given = usual()
+        schedule = hulltools.read_schedule(USUAL[1], case)
+        self.assertIs(case.unit("G1"), case.thermal[0])
+        self.assertIs(schedule.plan("W1"), schedule.plan("renewable", "W1"))
+        self.assertEqual(hulltools.settle(*USUAL, hulltools.per_mwh(98), hull=PROGRAM).unit("G1").payment, 66_000_000)
+        self.refused('the case has no unit "G2": known: `G1`, `W1`', case.unit, "G2")
+        case.renewable[0].name = "G1"
+        due = 'the case has a thermal and a renewable "G1": give the kind before the name'
+        self.refused(due, case.unit, "G1")
+
+    def test_a_schedule_of_a_dict_and_one_that_was_set(self):
+        case, _ = usual()
+        due = hulltools.read_schedule(USUAL[1], case)
+        given = due.as_json()
+        self.assertEqual(hulltools.read_schedule(given, case), due)
+        given["thermal"]["G1"]["power"] = Array([8000.0])
+        self.assertEqual(hulltools.read_schedule(given, USUAL[0]), due)
+        cost = hulltools.check(*USUAL, hull=PROGRAM)
+        for power in (Array([8000]), Array([8000.0]), (8000,)):
+            schedule = hulltools.read_schedule(USUAL[1], case)
+            schedule.plan("G1").power = power
+            self.assertEqual(hulltools.check(case, schedule, hull=PROGRAM), cost)
+        told = 'the schedule given: thermal "G1": power'
+        for power, why, period in (
+            ([8000.5], f"{told} of period 1 is 8000.5: a whole number of kilowatts is due", 1),
+            (["x"], f"{told} of period 1 is x: a whole number of kilowatts is due", 1),
+            (8000, f"{told} is 8000: a list of a number for each period is due", None),
+        ):
+            schedule.plan("G1").power = power
+            error = self.refused(why, hulltools.check, case, schedule, PROGRAM)
+            self.assertEqual((error.unit, error.period), ("G1", period))
+
+    def test_what_readers_refuse_has_a_status(self):
+        case, given = usual()
+        no_units = {"thermal": {}, "renewable": {}}
+        without_demand = {key: it for key, it in given.items() if key != "demand"}
+        for call, status in (
+            (lambda: hulltools.read_case(without_demand), 3),
+            (lambda: hulltools.read_case({**given, "demand": [float("nan")]}), 3),
+            (lambda: hulltools.read_case(f"{EXAMPLES}/usual/schedule.json"), 3),
+            (lambda: hulltools.read_schedule(no_units, case), 4),
+            (lambda: hulltools.read_schedule(USUAL[0], case), 4),
+            (lambda: hulltools.read_prices(USUAL[0]), 9),
+            (lambda: hulltools.settle(case, USUAL[1], {"energy": [1, 2]}, hull=PROGRAM), 9),
+            (lambda: hulltools.settle(case, USUAL[1], {"energie": [1]}, hull=PROGRAM), 9),
+            (lambda: hulltools.read_mixture(USUAL[0], case), 10),
+            (lambda: hulltools.read_case("none.json"), 2),
+            (lambda: hulltools.per_mwh("x"), None),
+            (lambda: hulltools.settle_zones(*USUAL, {"zones": {"A": {"energy": []}}, "default": "A"}, PROGRAM), None),
+        ):
+            with self.assertRaises(HullError) as found:
+                call()
+            self.assertEqual((found.exception.status, found.exception.code), (status, None), found.exception)
+
+    def test_flat_prices_have_a_file_of_given_periods(self):
+        flat = hulltools.per_mwh(98, 1)
+        for call, what in ((lambda: flat.write("nowhere"), "a file"), (flat.frame, "a frame")):
+            due = f"{what} has prices of each period, and these hold in any: give `periods=`, as case.periods"
+            self.refused(due, call)
+        with tempfile.TemporaryDirectory(prefix="hull-refused-") as room:
+            flat.write(f"{room}/prices.json", periods=3)
+            self.assertEqual(hulltools.read_prices(f"{room}/prices.json", 3), flat.over(3))
+
+    def test_a_radius_in_the_currency(self):
+        def radius(given, **more):
+            prices = hulltools.per_mwh(98)
+            return hulltools.certify(*USUAL, prices, MIXTURE, hull=PROGRAM, radius_per_mw=given, **more).radius
+
+        due = {1: 1000, 0: 0, "0.0005": 1, Decimal("1.2344"): 1234, 20_000: 20_000_000}
+        self.assertEqual({given: radius(given) for given in due}, due)
+        for given in (-1, "x", 20_000.1, float("nan")):
+            due = f"radius_per_mw is {given}: a number of at least 0 and at most 20,000 is due"
+            self.refused(due, radius, given)
+        both = "radius and radius_per_mw are both given, and one of them is due"
+        self.refused(both, lambda: radius(1, radius=1000))
+
+    def test_a_search_says_whether_it_is_near(self):
+        found = hulltools.convex_prices(*USUAL, hull=PROGRAM)
+        self.assertTrue(found.is_near)
+        found.distance = found.within + 1
+        self.assertFalse(found.is_near)
+
+    def test_units_and_periods_of_readers(self):
+        case = usual()[0]
+        for schedule, due in (
+            ({"thermal": {"G2": {}}, "renewable": {}}, "G2"),
+            ({"thermal": {}, "renewable": {}}, "G1"),
+            ({"thermal": {"G1": {"on": [2], "power": [0], "reserve": [0]}}, "renewable": {}}, "G1"),
+        ):
+            with self.assertRaises(HullError) as found:
+                hulltools.inputs.as_schedule(schedule, case)
+            self.assertEqual(found.exception.unit, due)
+        with self.assertRaises(HullError) as found:
+            hulltools.inputs.as_prices({"energy": [20000]}, case)
+        self.assertEqual(found.exception.period, 1)
+
+    def test_prices_of_another_length_or_kind(self):
+        certified = f"{EXAMPLES}/certified/prices.json"
+        due = f"{certified}: energy has 1 price: one for each of 3 periods is due"
+        self.refused(due, hulltools.read_prices, certified, 3)
+        for periods in ("x", 0, 169):
+            due = f"periods is {periods}: a whole number from 1 to 168 is due"
+            self.refused(due, hulltools.per_mwh(30).over, periods)
+        by_name, case = calls.named_prices, usual()[0]
+        self.assertEqual(by_name(None, case), {})
+        self.assertEqual(by_name({"a": hulltools.per_mwh(98)}, case), {"a": hulltools.per_mwh([98])})
+        for given in (hulltools.per_mwh(30), [hulltools.per_mwh(30)]):
+            due = f"prices is a dict of price lists by name, and no `{type(given).__name__}` can be that"
+            self.refused(due, by_name, given, case)
+        with self.assertRaisesRegex(HullError, "^the prices Posted given: no `int` can be taken: "):
+            by_name({"Posted": 30}, case)
+
+    def test_zones_with_objects(self):
+        dicts = {"zones": {"A": {"energy": [98], "reserve": [1]}}, "default": "A"}
+        objects = {"zones": {"A": hulltools.per_mwh(98, 1)}, "default": "A"}
+        found = [hulltools.settle_zones(*USUAL, zones, hull=PROGRAM).units for zones in (dicts, objects)]
+        self.assertEqual(found[0], found[1])
+
+    def test_the_line_of_an_error_is_said_in_words(self):
+        files = {"case": USUAL[0], "schedule": f"{EXAMPLES}/evening/schedule.json"}
+        with self.assertRaises(HullError) as found:
+            hulltools.check(*files.values(), hull=PROGRAM)
+        self.assertEqual(hulltools.sentence(found.exception.line, files), found.exception.sentence)
+
+    def test_lines_of_texts(self):
+        with open(f"{EXAMPLES}/usual/price.output", encoding="utf-8") as file:
+            text = file.read()
+        for given, at in (
+            (text[:60], 6),
+            (text.replace("chosen 1", "chosen 3"), 18),
+            (f"{text}x\n", text.count("\n") + 1),
+        ):
+            with self.assertRaises(HullError) as found:
+                hulltools.read_output(given)
+            self.assertEqual((found.exception.at_line, found.exception.code), (at, None), found.exception)
 
 
 class Names(unittest.TestCase):

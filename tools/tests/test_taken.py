@@ -13,7 +13,10 @@ from tool import EXAMPLES, PROGRAM, ROOT, python_with
 
 import hulltools
 from hulltools.json_texts import json_text
+from hulltools.named_texts import texts_of
+from hulltools.price_lists import PriceList
 from hulltools.refusals import Held
+from hulltools.studies import Lists, Settled
 
 USUAL = f"{EXAMPLES}/usual/case.json", f"{EXAMPLES}/usual/schedule.json"
 
@@ -40,6 +43,18 @@ class Texts(unittest.TestCase):
             self.assertEqual(settled(name).units, due.units)
         with self.assertRaisesRegex(hulltools.HullError, "this is a text of `hull bound`, where"):
             settled(f"{EXAMPLES}/two_units/bound.output")
+
+    def test_a_list_of_a_study_is_taken_for_its_settlement_and_its_prices(self):
+        price_list = PriceList("My_prices", "My prices", "prices of a file")
+        settlement = settled(hulltools.per_mwh(98), name="My prices")
+        lists = Lists(My_prices=Settled(price_list, settlement, []))
+        self.assertEqual(settled(lists["My_prices"]).units, settlement.units)
+        self.assertIs(lists["My prices"], lists["My_prices"])
+        with self.assertRaisesRegex(KeyError, "the study has no list My price: is `My_prices` meant"):
+            lists["My price"]
+        self.assertEqual([text.name for text in texts_of(lists)], ["My_prices"])
+        self.assertEqual([text.name for text in texts_of(lists["My prices"])], ["My prices"])
+        self.assertEqual(texts_of(list(lists.values())), [settlement])
 
     def test_a_reader_of_prices_takes_a_text(self):
         name = f"{EXAMPLES}/day/price.output"
@@ -110,6 +125,10 @@ class Numbers(unittest.TestCase):
 
     def test_flat_prices_over_periods_have_a_dict(self):
         self.assertEqual(hulltools.per_mwh(30).over(2).in_currency_per_mw(), {"energy": [30, 30], "reserve": [0, 0]})
+
+    def test_flat_prices_have_a_dict_of_one_number_each(self):
+        found = hulltools.per_mwh("30.25", 2).in_currency_per_mw()
+        self.assertEqual(found, {"energy": Decimal("30.25"), "reserve": 2})
 
     def test_a_case_out_of_form_is_refused_by_the_program(self):
         with self.assertRaises(hulltools.HullError) as found:

@@ -1,6 +1,7 @@
 """What the tools say at a terminal, by any locale, and where standard files are closed or there is no environment."""
 from __future__ import annotations
 
+import glob
 import json
 import os
 import pty
@@ -11,7 +12,7 @@ import tempfile
 import unittest
 from typing import Dict, List, Tuple
 
-from tool import EXAMPLES, PROGRAM, ROOT, python_with
+from tool import EXAMPLES, PROGRAM, ROOT, python_with, run
 
 from hulltools.telling import one_line
 
@@ -87,6 +88,16 @@ class AtATerminal(WithFiles):
         words = (case, schedule, zones)
         self.assertIn(f'"{NAME}",', self.call("settle_zones.py", *words, env={**os.environ, "HULL": PROGRAM})[1])
 
+    def test_words_that_are_refused(self) -> None:
+        for words in (
+            ["lmp.py", "a", "b", "c", NAME],
+            ["study.py", "a", "b", "--hours-per-period", NAME],
+            ["report.py", NAME],
+        ):
+            status, text, said = self.call(*words, env=dict(os.environ))
+            self.assertEqual((status, text, [it for it in said if it in ODD and it != "\n"]), (2, "", []), said)
+            self.assertIn("[31mRED", said)
+
     def test_findings(self) -> None:
         with open(f"{EXAMPLES}/usual/case.json", encoding="utf-8") as file:
             case = json.load(file)
@@ -119,6 +130,27 @@ class AnyLocale(WithFiles):
         status, text, said = self.call("compare.py", SETTLED, statement, env=env)
         self.assertEqual(status, 3)
         self.assertIn("Zürich,", text)
+
+
+class ModulesBeside(unittest.TestCase):
+    def test_a_python_that_takes_no_module_from_beside_a_tool(self) -> None:
+        names = sorted(glob.glob(f"{ROOT}/tools/*.py"))
+        names += [f"{ROOT}/workflow/scripts/{script}.py" for script in ("step", "summary")]
+        self.assertGreater(len(names), 10)
+        for flags, env in ((["-I"], {}), ([], {"PYTHONSAFEPATH": "1"})):
+            for name in names:
+                command = [sys.executable, "-B", *flags, name, "--help"]
+                ended = subprocess.run(command, cwd="/", env={**os.environ, **env}, capture_output=True, timeout=120)
+                self.assertEqual((ended.returncode, ended.stderr, ended.stdout[:7]), (0, b"", b"usage: "), command)
+
+
+class WithoutDescriptions(unittest.TestCase):
+    def test_each_tool_shows_its_usage_all_the_same(self):
+        for tool in sorted(it for it in os.listdir(f"{ROOT}/tools/hulltools/commands") if it.endswith(".py")):
+            if os.path.exists(f"{ROOT}/tools/{tool}"):
+                due = run(tool, "--help")
+                self.assertEqual((run(tool, "--help", flags=("-OO",)), due[0]), (due, 0), tool)
+                self.assertIn(f"usage: {tool} ", due[1])
 
 
 class LittleAround(WithFiles):

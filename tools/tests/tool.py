@@ -46,7 +46,7 @@ def run_here(tool, words, text):
     """Runs a tool's main as it is, without a Python of its own; signals are the tests' again behind it."""
     main = importlib.import_module(f"hulltools.commands.{tool.removesuffix('.py')}").main
     output, said = io.TextIOWrapper(io.BytesIO(), "utf-8"), io.StringIO()
-    handlers = {it: signal.getsignal(it) for it in (signal.SIGINT, signal.SIGTERM)}
+    handlers = {it: signal.getsignal(it) for it in (signal.SIGINT, signal.SIGTERM, signal.SIGHUP)}
     stdin, sys.stdin = sys.stdin, io.TextIOWrapper(io.BytesIO(text.encode()), "utf-8")
     try:
         with contextlib.redirect_stdout(output), contextlib.redirect_stderr(said):

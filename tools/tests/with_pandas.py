@@ -1,4 +1,5 @@
 """What of the package needs pandas: the data frames of texts; test_frames.py runs these in a Python that has it."""
+import copy
 import importlib.util
 import math
 import os
@@ -8,9 +9,12 @@ import unittest
 import warnings
 from unittest import mock
 
+import pandas
+
 from tool import EXAMPLES, PROGRAM, ROOT
 
 import hulltools
+import hulltools.inputs
 
 USUAL = f"{EXAMPLES}/usual/case.json", f"{EXAMPLES}/usual/schedule.json"
 PRINTED = f"{EXAMPLES}/usual/price.output"
@@ -103,18 +107,53 @@ class Columns(unittest.TestCase):
         self.assertNotIn("energy_currency_per_mwh", settled(98).frames()["prices"])
 
     def test_times_that_are_none(self):
-        for start in ("tomorrow", "", 5, "5", float("nan")):
-            with self.assertRaisesRegex(hulltools.HullError, "^start is .*: a time is due, as 2026-07-01T00:00$"):
+        for start in ("tomorrow", "", 5, "5", float("nan"), "01/07/2026", "1.7.2026 00:00", "29.03.2026"):
+            with warnings.catch_warnings(), self.assertRaisesRegex(
+                hulltools.HullError, "^start is .*: a time is due, as 2026-07-01T00:00$"
+            ):
+                warnings.simplefilter("error")
                 settled(98).frames(start=start)
         for hours in (0, -1, "x"):
             with self.assertRaisesRegex(hulltools.HullError, "^hours_per_period is .*: a number above 0"):
                 settled(98).frames(hours_per_period=hours)
+
+    def test_prices_of_one_number_have_a_frame_of_given_periods(self):
+        frame = hulltools.per_mwh(30, 2).frame(periods=3)
+        self.assertTrue(frame.equals(hulltools.per_mwh([30] * 3, 2).frame()))
 
     def test_prices_have_a_frame(self):
         frame = hulltools.per_mwh([30, 40.5], 2).frame("2026-07-01T00:00", 0.5)
         self.assertEqual(frame["energy_currency_per_mw"].mean(), 35.25)
         self.assertEqual(frame["reserve_currency_per_mwh"].tolist(), [4.0, 4.0])
         self.assertEqual([str(time) for time in frame.index], ["2026-07-01 00:00:00", "2026-07-01 00:30:00"])
+
+
+class Set(unittest.TestCase):
+    """What a script sets to a series is taken by the places of its items, whatever its index is."""
+
+    def setUp(self):
+        self.case = hulltools.read_case(f"{EXAMPLES}/evening/case.json")
+        self.schedule = hulltools.read_schedule(f"{EXAMPLES}/evening/schedule.json", self.case)
+
+    def series(self, numbers):
+        return pandas.Series(numbers, index=range(1, len(numbers) + 1), dtype=float)
+
+    def test_members_of_a_case_and_of_plans(self):
+        case, schedule = copy.deepcopy(self.case), copy.deepcopy(self.schedule)
+        case.demand, case.reserves = self.series(case.demand), self.series(case.reserves)
+        for unit in case.renewable:
+            unit.least, unit.most = self.series(unit.least), self.series(unit.most)
+        for plan in schedule.plans.values():
+            plan.on, plan.power, plan.reserve = map(self.series, (plan.on, plan.power, plan.reserve))
+        self.assertEqual(hulltools.inputs.as_case(case), self.case)
+        self.assertEqual(hulltools.inputs.as_schedule(schedule, case), self.schedule)
+        self.assertIs(hulltools.inputs.as_case(self.case), self.case)
+        self.assertIs(hulltools.inputs.as_schedule(self.schedule, case), self.schedule)
+        due = hulltools.settle(self.case, self.schedule, hulltools.per_mwh(30), hull=PROGRAM)
+        found = hulltools.settle(case, schedule, hulltools.per_mwh(30), hull=PROGRAM)
+        self.assertEqual(found, due)
+        frames = found.frames(case, schedule), due.frames(self.case, self.schedule)
+        self.assertTrue(all(frames[0][name].equals(frames[1][name]) for name in frames[1]))
 
 
 class Page(unittest.TestCase):
@@ -138,6 +177,43 @@ class Page(unittest.TestCase):
         self.assertEqual(list(known["payments"].columns), ["97", "98", "99", "hull"])
         due = [(("thermal", "G1"), 74.0), (("renewable", "W1"), 97.0)]
         self.assertEqual(list(known["payments"]["97"].items()), due)
+
+    def program(self, part):
+        """The first program of docs/PYTHON.md that has a part."""
+        with open(f"{ROOT}/docs/PYTHON.md", encoding="utf-8") as page:
+            return next(it for it in re.findall(r"```python\n(.*?)```", page.read(), re.S) if part in it)
+
+    def test_the_result_of_a_report_as_the_page_has_it(self):
+        report = hulltools.read_output(f"{EXAMPLES}/usual/price.output", hulltools.Report)
+        known = {"report": report}
+        exec(self.program("report.frames()"), known)
+        self.assertEqual((len(known["prices"]), len(known["result"])), (len(report.proposals), 1))
+        first = self.program("report.frames()").rpartition("result = ")[0]
+        exec(first, known)
+        self.assertEqual(known["result"]["energy_currency_per_mw"].tolist(), [98.0])
+
+    def test_revenue_and_cost_of_units_as_the_page_has_them(self):
+        """G1 sells 8 MW at 98.00 for 784.00; they cost 800.00, and the start 50.00."""
+        *lines, last = self.program("zonal = ").splitlines()
+        known = {"hulltools": hulltools, "files": USUAL}
+        with mock.patch.dict(os.environ, HULL=PROGRAM):
+            exec("\n".join(lines), known)
+        found = eval(last, known).set_index("unit").loc["G1"]
+        self.assertEqual(found.tolist(), [784.0, 800.0, 50.0, -66.0])
+
+    def test_price_lists_beside_each_other_as_the_page_has_them(self):
+        own, found = hulltools.per_mwh([98]), hulltools.convex_prices(*USUAL, hull=PROGRAM)
+        with open(f"{ROOT}/docs/PYTHON.md", encoding="utf-8") as page:
+            merged = re.search(r"`(found\.prices\.frame\(\)\.merge\(.*?)` has", page.read())[1]
+        frame = eval(merged, {"own": own, "found": found})
+        ends = ("", "_own")
+        due = ["period", *(f"{what}_currency_per_mw{end}" for end in ends for what in ("energy", "reserve"))]
+        self.assertEqual(list(frame.columns), due)
+
+    def test_a_schedule_has_a_frame_in_megawatts(self):
+        frame = hulltools.read_schedule(USUAL[1], USUAL[0]).frame()
+        self.assertEqual(list(frame.columns), ["unit", "period", "on", "power", "reserve"])
+        self.assertEqual(frame.values.tolist(), [["G1", 1, 1, 8.0, 2.0], ["W1", 1, 1, 2.0, 0.0]])
 
 
 if __name__ == "__main__":

@@ -1,4 +1,5 @@
 """What of the package needs SciPy; test_package.py runs these in a Python that has it. Cases are those of examples/."""
+import copy
 import base64
 import contextlib
 import csv
@@ -9,9 +10,12 @@ import json
 import os
 import random
 import re
+import shutil
 import sys
 import tempfile
 import unittest
+import zoneinfo
+from datetime import datetime
 from unittest import mock
 from decimal import Decimal
 
@@ -19,6 +23,7 @@ from tool import EXAMPLES, PROGRAM, ROOT, run
 
 import hulltools
 from hulltools.numbers import money
+from hulltools.price_lists import LISTS
 
 SMALL = ("usual", "evening", "windows")
 
@@ -84,6 +89,46 @@ class Settled(unittest.TestCase):
         with open(f"{self.room}/prices.json", encoding="utf-8") as file:
             self.assertEqual(json.load(file), {"energy": [0], "reserve": [0]})
         self.assertEqual(self.settle("usual", f"{self.room}/prices.json").payments, 850_000_000)
+
+    def dear_files(self):
+        """Examples/usual without wind, and G1 at 20,000.00 per MW: it gives 10 MW with no other price that would have it do so."""
+        case = hulltools.read_case(files("usual")[0]).without("W1")
+        case.reserves = [hulltools.Kilowatts(0)]
+        unit = case.thermal[0]
+        unit.points = [(power, hulltools.Millionths(power * 20_000_000)) for power, _ in unit.points]
+        plan = {"thermal": {"G1": {"on": [1], "power": [10_000], "reserve": [0]}}, "renewable": {}, "bids": {}}
+        for name, text in (("case", case.text()), ("schedule", json.dumps(plan))):
+            with open(f"{self.room}/{name}.json", "w", encoding="utf-8") as file:
+                file.write(text)
+        return f"{self.room}/case.json", f"{self.room}/schedule.json"
+
+    def test_prices_that_are_cut_are_told_by_line_and_status(self):
+        cut = "prices of 1 period were cut at the limits, per MW and period: energy of period 1 from 2000"
+        for tool in ("lmp.py", "elmp.py"):
+            status, _, said = run(tool, *self.dear_files(), f"{self.room}/prices.json", "--hull", PROGRAM)
+            self.assertEqual(status, 3, said)
+            self.assertRegex(said, f"(?m)^{tool}: {cut}[0-9.]+ to 10000$")
+            with open(f"{self.room}/prices.json", encoding="utf-8") as file:
+                self.assertEqual(json.load(file)["energy"], [10_000])
+
+    def test_a_search_that_ends_at_a_limit_says_so(self):
+        words = [f"{self.room}/prices.json", f"{self.room}/mixture.json", "--hull", PROGRAM]
+        status, _, said = run("convex_prices.py", *self.dear_files(), *words)
+        self.assertEqual(status, 0, said)
+        due = "prices stand at the limits, per MW and period: energy of period 1 at 10000"
+        self.assertIn(f"convex_prices.py: {due}\n", said)
+
+    def test_a_page_says_which_lists_were_cut(self):
+        case, schedule = self.dear_files()
+        words = ["--schedule", schedule, "--no-schedule", "--skip", "relaxation,elmp", "--hull", PROGRAM]
+        status, _, said = run("study.py", case, f"{self.room}/study", *words)
+        self.assertEqual(status, 3, said)
+        with open(f"{self.room}/study/study.html", encoding="utf-8") as file:
+            page = file.read()
+        self.assertIn("commitments held; prices of 1 period were cut at the limits</dd>", page)
+        self.assertIn(
+            "LMP: prices of 1 period were cut at the limits, per MW and period: energy of period 1 from", page
+        )
 
     def test_marginal_prices_are_what_more_or_less_demand_costs(self):
         """By a linear program of the tests' own, which shares nothing with the package."""
@@ -197,7 +242,7 @@ class Study(unittest.TestCase):
         self.assert_column("gap_schedule", (400, 400, 400, 400))
         self.assert_column("gap_duality", (250, 250, 250, 250))
         self.assert_column("gap_prices", (0, 550, 725, 0))
-        due = "onvex hull prices the gap is 650.00: 400.00 is the schedule's part, 250.00 is the duality gap, which no prices save, and at most 0.00 is the prices' part."
+        due = "onvex hull prices the gap is 650.00: 400.00 is the schedule's part, 250.00 is the duality gap, which no whole prices within the limits of prices save, and at most 0.00 is the prices' part."
         self.assertIn(due, said)
         self.assertIn(html.escape(due), self.read("study.html"))
         self.assertIn("A schedule is known that costs 400.00 less than this one.", self.read("study.html"))
@@ -213,7 +258,10 @@ class Study(unittest.TestCase):
         said = self.study("--no-schedule")
         self.assertEqual({row["gap_schedule_currency"] for row in self.rows("table.csv")}, {""})
         self.assert_column("gap_duality", (650, 650, 650, 650))
-        self.assertIn("no prices save 650.00, the schedule's part and the duality gap together", said)
+        self.assertIn(
+            "no whole prices within the limits of prices save 650.00, the schedule's part and the duality gap together",
+            said,
+        )
         self.assertFalse(os.path.exists(f"{self.room}/best.schedule.json"))
 
     def test_payments_and_consumers_by_rule(self):
@@ -235,7 +283,10 @@ class Study(unittest.TestCase):
             "must_run",
         ):
             self.assertIn(due, page)
-        self.assertIn("A better schedule may save some of the first part, and no prices do;", page)
+        self.assertIn(
+            "A better schedule may save some of the first part, and no whole prices within the limits of prices do;",
+            page,
+        )
         self.study("--no-schedule", "--rule", "make-whole")
         self.assertNotIn("Payments: make-whole and lost opportunity", self.read("study.html"))
 
@@ -287,6 +338,11 @@ class Study(unittest.TestCase):
         self.assertEqual(rows["The market's"]["value_currency"], "2650")
         self.assertTrue(os.path.exists(f"{self.room}/The_market_s.settlement.txt"))
         self.assertIn("can't be the name of a list", self.study("--no-schedule", "--prices", f"lmp={posted}", status=1))
+        with open(posted, "w", encoding="utf-8") as file:
+            file.write('{"energy": [40], "reserves": [5]}')
+        said = self.study("--no-schedule", "--prices", f"posted={posted}", status=1)
+        due = f"study.py: {posted}: `reserves` is no key of it: is `reserve` meant?"
+        self.assertEqual(said.splitlines()[-1], due)
 
     def test_zonal_prices_stand_beside_the_lists(self):
         zones = f"{self.room}/zones.json"
@@ -343,6 +399,44 @@ class Study(unittest.TestCase):
         self.assertIn(due, self.read("study.html"))
         self.assertEqual({row["gap_schedule_currency"] for row in self.rows("table.csv")}, {""})
 
+    def test_convex_hull_prices_that_miss_their_distance_are_told(self):
+        """After one round the prices of the linear relaxation have a greater dual value: the headline names these."""
+        words = (
+            *files("evening")[:1],
+            self.room,
+            "--schedule",
+            files("evening")[1],
+            "--hull",
+            PROGRAM,
+            "--rounds",
+            "1",
+        )
+        status, _, said = run("study.py", *words, "--no-schedule", "--skip", "lmp,elmp")
+        page = self.read("study.html")
+        due = "The search for convex hull prices missed its distance of 1.00: it came within 380.00 of the greatest dual value"
+        for told in (
+            due,
+            "The list Integer relaxation has a dual value 244.2",
+            "t the prices of the list Integer relaxation",
+        ):
+            self.assertIn(told, said)
+            self.assertIn(told, page)
+        self.assertEqual(status, 3)
+        self.assertNotIn("onvex hull prices the gap is", page + said)
+        self.assertIn("The prices of the list Integer relaxation come within 135.7", page)
+        self.assertIn(", at least</button>", page)
+
+    def test_a_name_that_turns_text_around_stays_out_of_the_page(self):
+        os.makedirs(f"{self.room}/in")
+        case = f"{self.room}/in/a\u202e\x1b[31m.json"
+        shutil.copy(f"{self.FOLDER}/case.json", case)
+        room, self.room = self.room, f"{self.room}/out"
+        self.study("--no-schedule", "--title", "a\u202eb", "--skip", "lmp,elmp,relaxation", case=case)
+        page = self.read("study.html")
+        self.assertEqual([it for it in page if it in "\u202e\x1b"], [])
+        self.assertIn("a??[31m.json, sha256", page)
+        self.room = room
+
     def test_a_larger_case(self):
         files = f"{EXAMPLES}/windows/case.json", f"{EXAMPLES}/windows/schedule.json"
         status, _, said = run(
@@ -393,6 +487,10 @@ class Calls(unittest.TestCase):
         case = self.case.scaled(demand=1.02)
         made = hulltools.make_schedule(case, hull=PROGRAM)
         self.assertEqual((hulltools.check(case, made.schedule, PROGRAM), made.is_near), (3_200_000_000, True))
+        self.assertEqual((made.cost, made.cost_in_currency), (3_200_000_000, 3200))
+        self.assertIsInstance(made.bound, int)
+        self.assertTrue(3_190_000_000 < made.bound <= made.cost)
+        self.assertAlmostEqual(made.solver_cost, 3200.0)
 
     def test_steps_without_a_limit_of_time(self):
         given = self.case, self.schedule
@@ -450,13 +548,21 @@ class Calls(unittest.TestCase):
         self.assertEqual(lists.loc["LMP", "consumers_pay_full_eur"], 7450)
         self.assertEqual(str(frames["hours"].index[0]), "2026-07-01 00:00:00")
         self.assertIn("Posted", set(frames["units"]["list"]))
+        self.assertEqual(set(frames["hours"]["key"]), set(found.lists))
+        texts = hulltools.frames(found.lists)["units"]
+        with open(f"{ROOT}/docs/PYTHON.md", encoding="utf-8") as page:
+            renamed = re.search(r"`frame(\.rename\(columns=.*?\))`", page.read())[1]
+        both = eval(f"frame{renamed}", {"frame": frames["units"]}).merge(texts, on=["report", "kind", "name"])
+        self.assertEqual(len(both), len(texts))
+        self.assertEqual(both["payment_eur"].tolist(), both["payment_currency"].tolist())
+        again = hulltools.settle(self.case, self.schedule, found.lists["LMP"], PROGRAM)
+        self.assertEqual(again.units, found.lists["lmp"].settlement.units)
         with self.assertRaisesRegex(hulltools.HullError, "`study` has no option `colour`"):
             hulltools.study(self.case, self.schedule, hull=PROGRAM, colour="red")
 
     def test_the_study_of_the_page_runs(self):
-        """The third program of docs/PYTHON.md, behind its session."""
-        with open(f"{ROOT}/docs/PYTHON.md", encoding="utf-8") as page:
-            program = re.findall(r"```python\n(.*?)```", page.read(), re.S)[2]
+        """The study of docs/PYTHON.md, behind its session."""
+        program = self.program("hulltools.study(")
         known = {"hulltools": hulltools, "case": self.case.scaled(demand=1.02)}
         here = os.getcwd()
         with tempfile.TemporaryDirectory() as room, mock.patch.dict(os.environ, HULL=PROGRAM):
@@ -470,6 +576,131 @@ class Calls(unittest.TestCase):
         self.assertEqual(
             sum(known["found"].parts("convex_hull").__dict__.values()), known["found"].parts("convex_hull").gap
         )
+
+    def test_the_sweep_of_the_page_runs(self):
+        """The sweep of docs/PYTHON.md: COAL's 20.00 per MWh are 50.00 for each 2.5 MW of demand."""
+        program = self.program("swept = {}")
+        known = {"hulltools": hulltools, "case": self.case}
+        with mock.patch.dict(os.environ, HULL=PROGRAM):
+            exec(program, known)
+        costs = dict(zip(known["runs"].index, known["runs"]["cost_currency"]))
+        self.assertEqual(costs, {0.98: 3100.0, 1.0: 3150.0, 1.02: 3200.0})
+
+    def test_the_sweep_of_two_parameters_runs(self):
+        """The sweep of docs/PYTHON.md with pairs: COAL gives 72.5 or 75 MW, and 20.00 per MWh become 22.00."""
+        known = {"hulltools": hulltools, "case": self.case}
+        with mock.patch.dict(os.environ, HULL=PROGRAM):
+            exec(self.program("pandas.concat("), known)
+        runs = known["runs"]
+        self.assertEqual(list(runs.index.names[:2]), ["demand", "coal"])
+        costs = {pair: runs.loc[pair, "cost_currency"].item() for pair in known["cases"]}
+        self.assertEqual(costs, {(0.98, 1): 3100.0, (0.98, 1.1): 3245.0, (1, 1): 3150.0, (1, 1.1): 3300.0})
+
+    def test_what_a_sweep_leaves_out_is_told_apart(self):
+        """The longer sweep of docs/PYTHON.md: the units give less than five times the demand."""
+        known = {"hulltools": hulltools, "case": self.case}
+        with mock.patch.dict(os.environ, HULL=PROGRAM):
+            exec(self.program("left_out"), known)
+        self.assertEqual(list(known["schedules"]), [1])
+        self.assertEqual(known["left_out"], {5: "can't be met, period 1"})
+        with self.assertRaises(hulltools.OverTime) as caught:
+            hulltools.make_schedule(self.case, seconds=0)
+        self.assertIn("give `seconds` or `gap` more", caught.exception.sentence)
+        no_unit = copy.deepcopy(self.case)
+        no_unit.thermal[0].must_run, no_unit.thermal[0].marks = 1, [0]
+        with self.assertRaises(hulltools.CannotBeMet) as caught:
+            hulltools.make_schedule(no_unit)
+        self.assertEqual((caught.exception.unit, caught.exception.period), (no_unit.thermal[0].name, 1))
+        with self.assertRaises(hulltools.CannotBeMet):
+            hulltools.integer_relaxation(self.case.scaled(demand=5))
+
+    def test_a_frame_in_megawatts_is_followed(self):
+        """The two programs of docs/PYTHON.md that follow."""
+        try:
+            import pandas
+        except ImportError:
+            self.skipTest("pandas isn't there")
+        known = {"hulltools": hulltools, "case": self.case.scaled(demand=1.02)}
+        with mock.patch.dict(os.environ, HULL=PROGRAM):
+            exec(self.program("rows = ["), known)
+        followed, powers = known["followed"], known["powers"]
+        self.assertEqual([followed.schedule.plan(it).power for it in ("COAL", "PEAKER")], [[100_000], [17_500]])
+        self.assertEqual((followed.bound, followed.gap, followed.is_near), (None, None, None))
+        self.assertEqual((followed.farthest_mw, followed.deviations), (0, []))
+        self.assertRegex(repr(followed), r"^<Made: schedule=<Schedule: .*>, cost=\d+, farthest_mw=0.0>$")
+        said = io.StringIO()
+        with mock.patch.dict(os.environ, HULL=PROGRAM), contextlib.redirect_stdout(said):
+            exec(self.program("again.deviations"), known)
+        self.assertEqual(said.getvalue(), "PEAKER in period 1: power 17 MW there, 17.5 MW here\n")
+        self.assertEqual(known["again"].farthest_mw, 0.5)
+        for given in (followed, followed.schedule, followed.schedule.frame()):
+            same = hulltools.follow_schedule(known["case"], given, hull=PROGRAM)
+            self.assertEqual((same.schedule, same.deviations), (followed.schedule, []))
+        powers = powers.copy()
+        as_dict = {
+            "thermal": {
+                "COAL": {"on": [1], "power": [100]},
+                "PEAKER": {"on": [1], "power": pandas.Series([17.5])},
+                "NUCLEAR": {"on": [1], "power": [10]},
+                "BLOCK": {"on": [0], "power": [0]},
+            }
+        }
+        again = hulltools.follow_schedule(known["case"], as_dict, hull=PROGRAM)
+        self.assertEqual(again.schedule, followed.schedule)
+        said = []
+        near = powers.assign(power=[10.0, 100.0, 17.0, 0.0])
+        hulltools.follow_schedule(known["case"], near, hull=PROGRAM, tell=said.append)
+        self.assertRegex(
+            said[-1], "^1 of its powers differs from the powers given by up to 0.5 MW: PEAKER in period 1: "
+        )
+        for changed, due in (
+            (powers.drop(columns="power"), "has no column `power`"),
+            (powers.rename(columns={"power": "power_mw"}), r"`power_mw` is no column of it: is `power` meant\?"),
+            (powers.assign(reserves=0), r"`reserves` is no column of it: is `reserve` meant\?"),
+            ({**as_dict, "renewables": {}}, r"`renewables` is no key of it: is `renewable` meant\?"),
+            ({"thermal": {"COAL": {"pwoer": [1]}}}, r"thermal: COAL: `pwoer` is no key of it: is `power` meant\?"),
+            (powers.assign(period=1.5), "row 1: no row of unit, period from 1 to 1, and numbers"),
+            (powers.assign(period=[1, 2, 1, 1]), "row 2: period 2 isn't one of 1 to 1"),
+            (powers.assign(unit="COAL"), "row 2: a second row of this unit and period"),
+            (powers.replace("COAL", "COAl"), r"the case has no unit COAl: is `COAL` meant\?"),
+            (powers[:3], 'it has no rows of thermal unit "BLOCK"'),
+            (powers[["unit", "period", "on", "on", "power"]], "the column 'on' stands twice"),
+            (powers.replace(17.5, "17,5"), "row 3: no row of .*, and numbers: `power` is 17,5$"),
+            (
+                powers.assign(power=powers["power"] * 1e3),
+                r"power 100000 MW of COAL in period 1, and it gives at most .*\?",
+            ),
+            (hulltools.Schedule({}), 'it has no rows of thermal unit "'),
+            ({"thermal": {"COAL": {"power": [float("nan")]}}}, "thermal, COAL, power, item 1 is nan"),
+            (3, "no `int` can be taken: a data frame, a schedule, a dict or a file's name is due"),
+        ):
+            with self.assertRaisesRegex(hulltools.HullError, f"^the powers given.*({due})"):
+                hulltools.follow_schedule(known["case"], changed, hull=PROGRAM)
+        with self.assertRaisesRegex(hulltools.CannotBeMet, "its commitments can't be met in this case"):
+            hulltools.follow_schedule(known["case"], powers.assign(on=0), hull=PROGRAM)
+
+    def test_hours_have_the_offset_of_a_start_in_a_zone(self):
+        start = datetime(2026, 7, 1, tzinfo=zoneinfo.ZoneInfo("Europe/Berlin"))
+        lists = [it.key for it in LISTS if it.key != "lmp"]
+        hours = hulltools.study(self.case, self.schedule, hull=PROGRAM, start=start, skip=lists, no_schedule=True)
+        hours = hours.frames()["hours"]
+        self.assertEqual(str(hours.index.tz), "UTC+02:00")
+        self.assertEqual(hours.tz_convert("Europe/Berlin").index[0], start)
+
+    def test_calls_say_what_they_do(self):
+        said = []
+        with mock.patch.dict(os.environ, HULL_PROGRESS="1"), mock.patch("hulltools.progress.FIRST", 0.0):
+            made = hulltools.make_schedule(self.case, hull=PROGRAM, tell=said.append)
+        self.assertRegex("\n".join(said), "^searching for a schedule: 0 s")
+        said.clear()
+        hulltools.study(self.case, made, hull=PROGRAM, tell=said.append, skip=["elmp"])
+        self.assertTrue([line for line in said if line.startswith("LMP: gap ")], said)
+        self.assertTrue(all(isinstance(line, str) and "--" not in line for line in said), said)
+
+    def program(self, part):
+        """The first program of docs/PYTHON.md that has a part."""
+        with open(f"{ROOT}/docs/PYTHON.md", encoding="utf-8") as page:
+            return next(it for it in re.findall(r"```python\n(.*?)```", page.read(), re.S) if part in it)
 
     def test_refusals_carry_their_parts(self):
         self.schedule["thermal"]["PEAKER"]["power"] = [41_000]
@@ -536,6 +767,51 @@ class Sweep(unittest.TestCase):
         with open(f"{self.room}/base/table.csv.changed", "rb") as file:
             self.assertEqual(file.read(), before[:-9].replace(b"250", b"1"))
         self.assertNotIn("it is done", self.sweep("--demand=+2%", "--", "--within", "0.5")[1])
+
+    def program_of(self, note):
+        """A program of other bytes than any other one."""
+        place = f"{os.path.dirname(self.room)}/hull"
+        with open(place, "w", encoding="utf-8") as file:
+            file.write(f'#!/bin/sh\n# {note}\nexec "{PROGRAM}" "$@"\n')
+        os.chmod(place, 0o755)
+        return place
+
+    def test_what_another_program_made_is_made_anew(self):
+        for note, done in (("one", 0), ("one", 1), ("another", 0)):
+            words = (*files("dear_schedule")[:1], self.room, "--hull", self.program_of(note), "--", "--skip", "elmp")
+            status, _, said = run("sweep.py", *words)
+            self.assertEqual((status, said.count("it is done")), (0, done), said)
+
+    def test_no_table_of_the_sweep_before_stays(self):
+        self.assertEqual(self.sweep("--", "--skip", "elmp")[0], 0)
+        self.assertIn("sweep.svg", os.listdir(self.room))
+        with mock.patch("hulltools.commands.sweep.table_of", side_effect=hulltools.HullError("none")):
+            self.assertEqual(self.sweep("--", "--skip", "elmp")[0], 1)
+        self.assertEqual([it for it in os.listdir(self.room) if it.startswith("sweep.")], [])
+        with open(f"{self.room}/UNFINISHED.txt", encoding="utf-8") as file:
+            self.assertIn("The table and the picture of this sweep aren't there", file.read())
+        self.assertEqual(self.sweep("--", "--skip", "elmp")[0], 0)
+        names = os.listdir(self.room)
+        self.assertEqual(("sweep.csv" in names, "UNFINISHED.txt" in names), (True, False))
+
+    def test_what_another_sweep_makes_meanwhile_is_in_no_table(self):
+        made = hulltools.commands.sweep.table_of
+
+        def made_beside(folder, *more):
+            table = made(folder, *more)
+            if folder.named.endswith("demand_+2"):  # (by then another sweep has made the base by other words)
+                with mock.patch("hulltools.commands.sweep.table_of", made):
+                    self.assertEqual(self.sweep("--", "--skip", "elmp")[0], 0)
+            return table
+
+        with mock.patch("hulltools.commands.sweep.table_of", made_beside):
+            status, said = self.sweep("--demand=+2%", "--", "--skip", "relaxation")
+        due = (
+            f"{os.path.realpath(self.room)}/base: this was changed meanwhile, so there is no table of all: sweep again"
+        )
+        self.assertEqual((status, due in said), (1, True), said)
+        self.assertEqual([it for it in os.listdir(self.room) if it.startswith("sweep.")], [])
+        self.assertEqual(self.sweep("--demand=+2%", "--", "--skip", "relaxation")[0], 0)
 
     def test_a_case_that_cannot_be_met_is_left_out(self):
         status, said = self.sweep("--outage", "COAL")

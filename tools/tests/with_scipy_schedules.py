@@ -13,6 +13,7 @@ from hulltools.json_texts import parse
 from hulltools.cases import case_of, read_case
 from hulltools.program import Hull, as_file
 from hulltools.schedules import Schedule
+from hulltools.numbers import Millionths
 from hulltools.scheduling import Made, make_schedule, search
 from hulltools.search_limits import SearchLimits
 
@@ -86,6 +87,7 @@ class StartCosts(unittest.TestCase):
     def test_the_bound_holds_where_costs_are_below_straight_lines(self) -> None:
         made = Made(Schedule({}), 101.0, 101.0, 1, 0.0005, 1.0)
         self.assertTrue(made.is_near)
+        self.assertEqual(made.bound, 100_000_000)
         self.assertEqual(made.told(101_000_000), "within 0.9901 % of the solver's bound, 100.00, after 1 node")
 
     def test_what_the_clock_cut_is_refused(self) -> None:
@@ -94,9 +96,21 @@ class StartCosts(unittest.TestCase):
         with self.assertRaisesRegex(HullError, due):
             search(case, SearchLimits(seconds=0.0))
 
+    def test_the_cost_of_a_schedule_that_was_not_checked_is_refused(self) -> None:
+        made = Made(Schedule({}), 101.0, 100.0)
+        with self.assertRaisesRegex(
+            HullError, "^the schedule wasn't checked, so its cost isn't known: `check` says it$"
+        ):
+            made.cost_in_currency
+        made.checked_cost = Millionths(101_500_000)
+        self.assertEqual((made.cost, str(made.cost_in_currency)), (101_500_000, "101.5"))
+        due = "<Made: schedule=<Schedule: periods=0, units=0>, cost=101500000, gap=0.00990099, is_near=False, nodes=0>"
+        self.assertEqual(repr(made), due)
+
     def test_a_solver_without_a_bound_is_told(self) -> None:
         made = Made(Schedule({}), 101.0, -float("inf"), 200, 0.0005)
         self.assertFalse(made.is_near)
+        self.assertIsNone(made.bound)
         self.assertEqual(made.told(101_000_000), "the gap of 0.05 % is missed: the solver has no bound after 200 nodes")
 
 
