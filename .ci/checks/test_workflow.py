@@ -340,6 +340,18 @@ class Contents(Workflow):
         )
         self.assertEqual(self.table(), [])
 
+    def test_files_of_all_days_are_made_anew_whatever_their_times_are(self) -> None:
+        self.days("one", "two")
+        self.ends_well()
+        self.change("one", "schedule.json", lambda value: value["renewable"].update(W1=[9999]))
+        later = time.time() + 2 * 86400
+        for name in ("left.txt", "table.csv", "page.html"):
+            os.utime(self.result(name), (later, later))
+        is_right, said = self.run_all()
+        self.assertFalse(is_right)
+        self.assertIn("1 line of what is left", said.replace("2 lines", "1 line"))
+        self.assertEqual((list(self.left()), list(self.audited())), (["one"], ["two"]))
+
     def test_a_report_that_is_given_is_audited_and_never_written(self) -> None:
         self.days("right", "wrong")
         for name, old in (("right", ""), ("wrong", "payments 164")):
@@ -361,7 +373,10 @@ class FromOthers(Workflow):
 
         self.days("forged", "right")
         self.ends_well()
-        forged = RIGHT.replace(b"payments 164", b"payments 165")
+        forged = RIGHT
+        for old, new in ((b"cost 850", b"cost 851"), (b"payments 164", b"payments 165"), (b"gap 164", b"gap 165")):
+            forged = forged.replace(old, new)
+        forged = forged.replace(b"scheduled 196000000 payment 98000000", b"scheduled 195000000 payment 99000000")
         write(self.result("forged/report.txt"), forged.decode())
         for step, place in (("report", "made"), ("audit", "of")):
             record = json.loads(read(self.result(f"forged/.steps/{step}.made.json")))
@@ -526,6 +541,28 @@ class Lists(Workflow):
         page = read(self.result("page.html")).decode()
         for due in ("<svg", "certified least", "3 days are wanted, and 3 have prices. Certified are 3, audited are 3."):
             self.assertIn(due, page)
+
+    def test_a_list_whose_prices_were_cut_is_left(self) -> None:
+        """Of examples/usual without wind, and with G1 at 20,000.00 per MW, twice the limit."""
+
+        def dear(case: Any) -> None:
+            case.update(reserves=[0], renewable_generators={})
+            case["thermal_generators"]["G1"]["piecewise_production"] = [
+                {"mw": at, "cost": at * 20000} for at in (8, 20)
+            ]
+
+        self.day("dear")
+        self.change("dear", "case.json", dear)
+        plan = {"thermal": {"G1": {"on": [1], "power": [10000], "reserve": [0]}}, "renewable": {}}
+        write(f"{self.study}/days/dear/schedule.json", json.dumps(plan))
+        is_right, said = self.run_all(lists=["lmp"])
+        if "SciPy" in said:
+            self.skipTest("Snakemake's Python has no SciPy")
+        self.assertFalse(is_right, said)
+        due = (
+            "lmp: prices of 1 period were cut at the limits, per MW and period: energy of period 1 from 20000 to 10000"
+        )
+        self.assertIn(due, self.left()["dear"])
 
 
 class Slurm(unittest.TestCase):

@@ -1,4 +1,5 @@
 """workflow/ touches its own files alone, believes nothing that others write, and reads words as they are meant."""
+import hashlib
 import importlib
 import json
 import os
@@ -80,7 +81,10 @@ class OfOthers(Workflow):
         marks = f"{self.room}/home/.local/state/hull/audits"
         text = read(f"{marks}/{os.listdir(marks)[0]}").decode()
         self.assertEqual(text.splitlines()[:2], ["right: one", f"program: {self.room}/hull"])
-        self.assertEqual([line.split(": ")[0] for line in text.splitlines()[2:]], ["case", "schedule", "report"])
+        due = ["case", "schedule", "report", f"sum of {self.room}/hull"]
+        self.assertEqual([line.split(": ")[0] for line in text.splitlines()[2:]], due)
+        self.assertIn(hashlib.sha256(SWAPPING.encode()).hexdigest(), text)
+        self.assertIn(f" Audits were made by {self.room}/hull.</p>", read(self.result("page.html")).decode())
 
     def test_who_asks_what_is_left_names_marks_of_audits(self) -> None:
         self.days("one")
@@ -94,6 +98,24 @@ class OfOthers(Workflow):
         self.assertIn(f"marks of audits are to be in {marks}: if these are yours, add --audits FOLDER\n", ran.stderr)
         self.assertEqual(read(self.result("table.csv")), table)
         self.assertIn("one: audit: audit.txt isn't of an audit that you made", self.ask("--audits", marks).stdout)
+
+    def test_settings_that_no_run_has_left_are_refused(self) -> None:
+        self.days("one")
+        self.ends_well()
+        name = self.result(".steps/settings.json")
+        right = json.loads(read(name))
+        changes = (("results", 5), ("lists", ["x"]), ("words", {"report": 1}), ("a", 1))
+        wrong = [{**right, key: value} for key, value in changes]
+        for text in ("x", "[]", "1", "[" * 9999, *map(json.dumps, wrong)):
+            due = (1, "", "summary.py: HULL_DAYS_SETTINGS: these are no settings of a run\n")
+            self.env["HULL_DAYS_SETTINGS"] = text
+            ran = self.ask()
+            self.assertEqual((ran.returncode, ran.stdout, ran.stderr), due)
+            del self.env["HULL_DAYS_SETTINGS"]
+            write(name, text)
+            ran = self.ask()
+            self.assertEqual(ran.stderr, "summary.py: results/.steps/settings.json: these are no settings of a run\n")
+            write(name, json.dumps(right))
 
     @unittest.skipIf(sys.version_info < (3, 11), "this Python takes modules from where it begins")
     def test_a_job_of_slurm_takes_nothing_from_the_study(self) -> None:
@@ -148,6 +170,18 @@ class OfTheUser(Workflow):
         self.assertEqual((looks_of(victim), looks_of(self.result("mine"))), before)
         is_right, said = self.run_all("--nocolor", "results/right/report.txt")
         self.assertEqual(read(self.result("right/report.txt")), RIGHT, said)
+
+    def test_a_link_in_place_of_a_day_of_which_nothing_is_wanted(self) -> None:
+        self.days("linked", "right")
+        os.makedirs(f"{self.room}/victim")
+        os.makedirs(f"{self.study}/results")
+        os.symlink(f"{self.room}/victim", self.result("linked"))
+        is_right, said = self.run_all("--nocolor", report=False, audit=False)
+        self.assertEqual(
+            (is_right, "Error in file" in said, os.listdir(f"{self.room}/victim")), (False, False, []), said
+        )
+        due = "results/linked is a symbolic link, and nothing is written through it"
+        self.assertEqual(self.left(), {"linked": [due]})
 
     def test_logs_of_the_user_stay_and_no_day_has_the_name_of_a_file_of_all(self) -> None:
         self.days("notes", "empty", "table.csv", "left.txt")
@@ -228,6 +262,19 @@ class Words(Workflow):
         for key in ("days", "results", "audits", "program", "python", "report_words"):
             self.assertEqual(self.refusal(**{key: 2026.1}), f"{key}: 2026.1 isn't read as a text: write it in quotes")
             self.assertEqual(self.refusal(**{key: None}), "")
+
+    def test_names_of_folders(self) -> None:
+        days = script("days")
+        for key in ("days", "results"):
+            for name in ("a{b", "a}", "x/{day}/y"):
+                why = f"{key}: {name}: Snakemake takes braces for its own: name a folder without them"
+                self.assertEqual(self.refusal(**{key: name}), why)
+            for name, due in (("made//here/", "made/here"), ("/", "/"), ("", key)):
+                self.assertEqual(getattr(days.settings_from({key: name}), key), due)
+
+    def test_a_slash_behind_the_name_of_a_folder(self) -> None:
+        self.days("one")
+        self.ends_well(days="days/", results="results//")
 
     def test_a_quote_that_is_not_closed(self) -> None:
         for key in ("schedule_words", "elmp_words", "convex_words", "report_words"):

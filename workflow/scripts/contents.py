@@ -19,6 +19,7 @@ HIDDEN = ".steps"  # the folder of records and flags
 CHUNK = 1 << 20
 MOST_BYTES = 67_108_864  # (of a file that hull takes)
 MOST_SECONDS_OF_WAIT = 300
+PROGRAM = "program: "  # (begins a line of a mark)
 
 
 def refuse_too_large(name: str) -> None:
@@ -78,9 +79,14 @@ def refuse_links(settings: Settings, *names: str) -> None:
             raise HullError(f"{one_line(name)} is a symbolic link, and nothing is written through it")
 
 
+def refuse_linked_day(day: Day) -> None:
+    """Refuses a day whose folders of results are links."""
+    refuse_links(day.settings, day.name, f"{day.name}/{HIDDEN}", f"{day.name}/log")
+
+
 def make_folders(day: Day) -> None:
     """Makes the folders of a day's results."""
-    refuse_links(day.settings, day.name, f"{day.name}/{HIDDEN}", f"{day.name}/log")
+    refuse_linked_day(day)
     for name in (HIDDEN, "log"):
         os.makedirs(day.made(name), exist_ok=True)
 
@@ -173,7 +179,7 @@ def why_not_current(day: Day, step: str) -> Optional[str]:
 
 def refuse_taken(day: Day, step: str) -> None:
     """Refuses a step that would write through a symbolic link, or replace a file without a record, which stays."""
-    refuse_links(day.settings, day.name, f"{day.name}/{HIDDEN}", f"{day.name}/log")
+    refuse_linked_day(day)
     # A step at work writes a record before its file, and takes a log away before the record.
     there = [file for file in (*STEPS[step].makes, log_of(step)) if os.path.lexists(day.made(file))]
     ours = list(record_of(day, step).get("made", {}))
@@ -216,3 +222,13 @@ def is_marked(day: Day) -> bool:
     """Whether `hull audit`, run by this user, found right the very files that lie there."""
     sums = input_sums(day, "audit")
     return all(sums.values()) and os.path.isfile(audit_mark(day.settings, sums))
+
+
+def auditor(day: Day) -> str:
+    """The program by which that audit was made, as the mark of it names it."""
+    try:
+        with open(audit_mark(day.settings, input_sums(day, "audit")), encoding="utf-8", errors="replace") as file:
+            lines = file.read().splitlines()
+    except OSError:
+        return ""
+    return next((line[len(PROGRAM) :] for line in lines if line.startswith(PROGRAM)), "")

@@ -105,17 +105,35 @@ class Settings:
         return [*self.lists, *([REPORT] if self.report else []), *(["audit"] if self.audit else [])]
 
 
+def is_sound(settings: Settings) -> bool:
+    """Whether all of the settings are of the types that they have in a run, but for the names of days."""
+    due = asdict(Settings(only=settings.only))
+    words = settings.words.values()
+    are_types = all(type(found) is type(due[key]) for key, found in vars(settings).items())
+    return are_types and set(settings.lists) <= set(LISTS) and all(isinstance(it, str) for it in words)
+
+
+def settings_in(text: str, where: str) -> Settings:
+    """The settings that a run has left as a text; HullError where no run can have."""
+    try:
+        found = Settings(**json.loads(text))
+        if is_sound(found):
+            return replace(found, only=names_of(found.only))
+    except (AttributeError, HullError, ValueError, TypeError, RecursionError):
+        pass
+    raise HullError(f"{where}: these are no settings of a run")
+
+
 def read_settings(name: str) -> Settings:
     """The settings that a run has left in a file."""
-    with open(name, encoding="utf-8") as file:
-        settings = Settings(**json.load(file))
-    return replace(settings, only=names_of(settings.only))
+    with open(name, encoding="utf-8", errors="replace") as file:
+        return settings_in(file.read(), name)
 
 
 def handed_settings() -> Optional[Settings]:
     """The settings that the run hands on to this process; None where no run has started it."""
     text = os.environ.get(HANDED)
-    return Settings(**json.loads(text)) if text else None
+    return settings_in(text, HANDED) if text else None
 
 
 def audits_folder(given: str) -> str:
@@ -135,8 +153,8 @@ def settings_from(config: Mapping[str, Any]) -> Settings:
             raise HullError(f"lists: {one_line(name)} isn't one of {', '.join(LISTS)}")
     words = {"schedule": "schedule_words", "elmp": "elmp_words", "convex_hull": "convex_words", REPORT: "report_words"}
     return Settings(
-        days=text_in("days", config) or "days",
-        results=text_in("results", config) or "results",
+        days=folder_in("days", config),
+        results=folder_in("results", config),
         audits=audits_folder(text_in("audits", config)),
         only=names_of(config.get("only")),
         lists=lists,
@@ -183,6 +201,14 @@ def text_in(key: str, config: Mapping[str, Any]) -> str:
     if given is not None and not isinstance(given, str):
         raise HullError(f"{key}: {one_line(given)} isn't read as a text: write it in quotes")
     return given or ""
+
+
+def folder_in(key: str, config: Mapping[str, Any]) -> str:
+    """A folder's name, with one slash where several stand, and none at its end: Snakemake compares names as they are written."""
+    name = text_in(key, config) or key
+    if "{" in name or "}" in name:
+        raise HullError(f"{key}: {one_line(name)}: Snakemake takes braces for its own: name a folder without them")
+    return re.sub("/+", "/", name.rstrip("/") or "/")
 
 
 def words_in(key: str, config: Mapping[str, Any]) -> str:

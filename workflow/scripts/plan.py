@@ -10,7 +10,8 @@ from dataclasses import dataclass, field
 from functools import cached_property
 from typing import Dict, List, Optional, Tuple
 
-from contents import HIDDEN, drop, drop_made, input_sums, make_folders, record_of, refuse_links, refuse_taken
+from contents import HIDDEN, drop, drop_made, input_sums, make_folders, record_of, refuse_linked_day, refuse_links
+from contents import refuse_taken
 from contents import why_not_current, write_whole
 from days import REPORT, STEPS, Day, Settings, days_of, refusal_of_name, shown
 from hulltools.errors import HullError, one_line
@@ -44,6 +45,7 @@ def why_not_begun(day: Day) -> Optional[str]:
         if day.is_given(what) and not os.path.isfile(day.path(what)):
             return f"its {os.path.basename(day.path(what))} is no file, or a link to none"
     try:
+        refuse_linked_day(day)  # (a day of which no step is wanted, too: its folder is made)
         for step in day.steps():
             refuse_taken(day, step)
     except HullError as error:
@@ -137,9 +139,13 @@ def set_flags(plan: Plan) -> None:
                 else:
                     settle_times(day, step)
             withdraw(day, steps, stale)
+            continue
+        except HullError as error:
+            why = str(error)
         except OSError as error:
-            plan.days.remove((day, steps))
-            plan.refused[day.name] = f"{one_line(error.filename or day.folder)}: {error.strerror}"
+            why = f"{one_line(error.filename or day.folder)}: {error.strerror}"
+        plan.days.remove((day, steps))
+        plan.refused[day.name] = why
 
 
 def show_flags(plan: Plan, folder: str) -> Dict[str, List[str]]:

@@ -121,10 +121,10 @@ def minutes(settings: Settings, least: int, per_megabyte: int) -> Callable[..., 
     return lambda wildcards, attempt: int((least + per_megabyte * megabytes(settings, wildcards.day)) * attempt)
 
 
-def summary(settings: Settings, scripts: str, began: float) -> None:
-    """Writes the table and the page, where the run hasn't, and prints what is left."""
-    left = os.path.join(settings.results, "left.txt")
-    is_new = os.path.isfile(left) and not os.path.islink(left) and os.path.getmtime(left) >= began
-    more = ["--print"] if is_new else []
-    words = [settings.python, os.path.join(scripts, "summary.py"), "--settings", settings_file(settings), *more]
+def summary(settings: Settings, scripts: str) -> None:
+    """Makes the table, the page and the list of what is left from what is there now, and prints that list.
+
+    (Whether those that lie there are this run's, no time of a file says: another one may have written them meanwhile, or dated them.)
+    """
+    words = [settings.python, os.path.join(scripts, "summary.py"), "--settings", settings_file(settings)]
     subprocess.run(words, stdin=subprocess.DEVNULL)

@@ -4,7 +4,6 @@ usage: step.py STEP DAY [--attempt N]
 
 The settings are those that the run hands on.
 """
-import argparse
 import os
 import re
 import shutil
@@ -15,15 +14,19 @@ import tempfile
 from hashlib import sha256
 from typing import Any, Callable, Dict, List, Optional
 
-from contents import alone, audit_mark, basis, drop, log_of, make_folders, record_name, record_of, refuse_taken
+# (`python3 -I` and PYTHONSAFEPATH leave the folder out)
+sys.path.insert(0, os.path.dirname(os.path.realpath(__file__)))
+
+from contents import PROGRAM, alone, audit_mark, basis, drop, log_of, make_folders, record_name, record_of, refuse_taken
 from contents import refuse_too_large, sum_of, why_not_current, write_record, write_whole
 from days import HOME, LISTS, REPORT, STEPS, Day, handed_settings, refusal_of_name, shown
-from hulltools.errors import HullError, one_line
+from hulltools.commands.words import Asker
+from hulltools.errors import ENDS, HullError, one_line
 from hulltools.faults import sentence
 from hulltools.named_files import Files
 from hulltools.outputs import parse_output
 from hulltools.prices import Prices
-from hulltools.program import MOST_WORK
+from hulltools.program import MOST_WORK, Hull
 
 Made = Dict[str, bytes]
 PASSING = ("2", "7")  # statuses of what may pass: a file that can't be read, no memory
@@ -141,7 +144,10 @@ def make_price_list(day: Day, name: str, room: str) -> Made:
     if name == "elmp":
         write_elmp(day, prices)
     else:
-        write_whole(prices, PRICES[name](day).text().encode())
+        found = PRICES[name](day)
+        if found.cut:  # (the tools have status 3 for it, which leaves a step too)
+            raise HullError(found.told_cuts)
+        write_whole(prices, found.text().encode())
     return {f"{name}.prices.json": read(prices), f"{name}.settlement.txt": settlement(day, prices)}
 
 
@@ -186,10 +192,12 @@ def make(day: Day, step: str, room: str, sums: Dict[str, Optional[str]]) -> Made
 
 
 def mark_audit(day: Day, sums: Dict[str, Optional[str]]) -> None:
-    """Notes outside of the study that the files with these sums were found right, and by which program."""
+    """Notes outside of the study that the files with these sums were found right, and by which program, as it is now."""
     os.makedirs(day.settings.audits, exist_ok=True)
-    text = f"right: {day.name}\nprogram: {one_line(day.settings.program)}\n"
+    program = shutil.which(day.settings.program) or day.settings.program
+    text = f"right: {day.name}\n{PROGRAM}{one_line(program)}\n"
     text += "".join(f"{what}: {sums[what]}\n" for what in STEPS["audit"].takes)
+    text += "".join(f"sum of {one_line(it)}: {sum_of(it, is_input=True)}\n" for it in Hull(program).files())
     write_whole(audit_mark(day.settings, sums), text.encode())
 
 
@@ -253,7 +261,7 @@ def tell(text: str) -> None:
 
 
 def body(words: List[str]) -> Optional[str]:
-    ask = argparse.ArgumentParser(prog="step.py", usage=(__doc__ or "usage: ").split("usage: ")[1].split("\n")[0])
+    ask = Asker(prog="step.py", usage=(__doc__ or "usage: ").split("usage: ")[1].split("\n")[0])
     ask.add_argument("step", choices=list(STEPS))
     ask.add_argument("day")
     ask.add_argument("--attempt", type=int, default=1)
@@ -276,8 +284,9 @@ def end_quietly(number: int, frame: object) -> None:
 
 
 def main() -> int:
-    for number in (signal.SIGINT, signal.SIGTERM):
-        signal.signal(number, end_quietly)
+    for number in ENDS:
+        if number != signal.SIGHUP or signal.getsignal(number) is not signal.SIG_IGN:  # (`nohup` keeps that one away)
+            signal.signal(number, end_quietly)
     try:
         why = body(sys.argv[1:])
     except HullError as error:

@@ -1,22 +1,25 @@
 """Writes the table and the page over all days, and the list of what is left and why.
 
-usage: summary.py --settings FILE [--audits FOLDER] [--quiet | --print]
+usage: summary.py --settings FILE [--audits FOLDER] [--quiet]
 
 FILE is what a run has left. Where that run had a folder of its own for marks of audits, FOLDER names it again:
 it isn't chosen by who can write FILE.
 Status 1 where a day is left. What counts is what the files hold: a result of other files, or one that was changed, isn't in the table.
 """
-import argparse
 import os
 import sys
 from dataclasses import dataclass, field, replace
 from typing import List, Optional, Tuple
 
-from contents import HIDDEN, basis, is_marked, read_record, record_of, refuse_links, sum_of, why_not_current
+# (`python3 -I` and PYTHONSAFEPATH leave the folder out)
+sys.path.insert(0, os.path.dirname(os.path.realpath(__file__)))
+
+from contents import HIDDEN, auditor, basis, is_marked, read_record, record_of, refuse_links, sum_of, why_not_current
 from contents import write_record, write_whole
 from days import FILES, LISTS, REPORT, STEPS, Day, Settings, audits_folder, handed_settings, read_settings, shown
 from plan import plan_of
 from runs import refuse_audits_inside, settings_file
+from hulltools.commands.words import Asker
 from hulltools.errors import HullError, one_line
 from hulltools.outputs import read_output
 from hulltools.tables import Table
@@ -57,6 +60,7 @@ class Priced:
     units: List[Paid]
     audited: Optional[bool] = None
     least: Optional[int] = None
+    auditor: str = ""  # the program by which the audit was made
 
     @property
     def payments(self) -> int:
@@ -118,6 +122,7 @@ def add_day(summary: Summary, day: Day, steps: List[str]) -> None:
     found = [priced(day, name, day.made(f"{name}.settlement.txt")) for name in LISTS if name in made]
     if REPORT in made or day.is_given(REPORT) and is_marked(day):
         found.append(priced(day, REPORT, day.path("report"), is_marked(day)))
+        found[-1].auditor = auditor(day)
     least = certified_least(day) if "convex_hull" in made else None
     for price_list in found:
         price_list.least = least
@@ -188,10 +193,7 @@ def settings_of(name: str, audits: str) -> Settings:
     HullError where no run can have left them there, with places of their own to write to, or with marks of audits
     that the user doesn't name.
     """
-    try:
-        settings = read_settings(name)
-    except (ValueError, TypeError, RecursionError):
-        raise HullError(f"{name}: these are no settings of a run") from None
+    settings = read_settings(name)
     handed = handed_settings()
     if handed:
         return replace(handed, only=settings.only)
@@ -207,20 +209,15 @@ def settings_of(name: str, audits: str) -> Settings:
 
 
 def body(words: List[str]) -> int:
-    ask = argparse.ArgumentParser(prog="summary.py", usage=(__doc__ or "usage: ").split("usage: ")[1].split("\n")[0])
+    ask = Asker(prog="summary.py", usage=(__doc__ or "usage: ").split("usage: ")[1].split("\n")[0])
     ask.add_argument("--settings", required=True)
     ask.add_argument("--audits", default="")
     ask.add_argument("--quiet", action="store_true")
-    ask.add_argument("--print", action="store_true")
     given = ask.parse_args(words)
     settings = settings_of(given.settings, given.audits)
-    if given.print:
-        with open(os.path.join(settings.results, "left.txt"), encoding="utf-8", errors="replace") as file:
-            text = "".join(f"{one_line(line.rstrip())}\n" for line in file)
-    else:
-        summary = summary_of(settings)
-        write_files(settings, summary)
-        text = left_text(summary)
+    summary = summary_of(settings)
+    write_files(settings, summary)
+    text = left_text(summary)
     if not given.quiet:
         tell(settings, text)
     return 1 if text else 0

@@ -129,8 +129,10 @@ def uplift_page(summary: "Summary") -> str:
     """The page. Certificates and audits are counted as far as they are of the files that lie there."""
     count = len(summary.days())
     audited = sum(bool(it.audited) for it in summary.priced)
+    programs = sorted({html.escape(one_line(it.auditor)) for it in summary.priced if it.audited and it.auditor})
+    by = f" Audits were made by {', '.join(programs)}." if programs else ""
     body = f"""<style>{STYLE}</style><h1>Uplift of {count} day{"s" * (count != 1)}</h1>
-<p>{summary.count} days are wanted, and {count} have prices. Certified are {len(leasts(summary))}, audited are {audited}. Each list is settled by hull.</p>
+<p>{summary.count} days are wanted, and {count} have prices. Certified are {len(leasts(summary))}, audited are {audited}. Each list is settled by hull.{by}</p>
 {picture(summary) if summary.priced else ""}
 {list_table(summary)}
 {day_table(summary)}
