@@ -97,6 +97,31 @@ class Docs(unittest.TestCase):
         table = self.read(f"{ROOT}/docs/ARCHITECTURE.md").partition("| Crate | Cites lemmas of |\n|---|---|\n")[2]
         self.assertEqual(table.partition("\n\n")[0].split("\n"), due)
 
+    def declared(self, crate: str) -> set[str]:
+        """What a crate declares in its sources and definitions, and the names of its clauses."""
+        code = "".join(map(self.read, glob.glob(f"{ROOT}/crates/{crate}/src/**/*.rt", recursive=True)))
+        specs = "".join(map(self.read, glob.glob(f"{ROOT}/crates/{crate}/specs/**/*.antt", recursive=True)))
+        return {
+            *re.findall(r"\b(?:fn|struct|enum|trait|mod|ensures)\s+(\w+)", code),
+            *re.findall(r"^(?:pub |data |record )*(\w+)", specs, re.M),
+        }
+
+    def test_promises_name_contracts_of_their_crates(self) -> None:
+        declared = {crate: self.declared(crate) for crate in os.listdir(f"{ROOT}/crates")}
+        here, cited, lost = list(declared), 0, []
+        for line in self.read(f"{ROOT}/docs/PROMISES.md").split("\n"):
+            if line.startswith(("#", "Crates: ")):
+                here = [it for it in re.findall(r"`(\w+)`", line) if it in declared] or list(declared)
+            contract = re.split(r"(?<!\\)\|", line.strip("| "))[-1] if line.startswith("| ") else ""
+            for name in re.findall(r"`([A-Za-z_][\w:]*)`", contract):
+                crate, *rest = name.split("::")
+                crates, words = ([crate], rest) if crate in declared else (here, [crate, *rest])
+                cited += 1
+                if not any(declared[it].issuperset(words) for it in crates):
+                    lost.append(name)
+        self.assertGreater(cited, 250)
+        self.assertEqual(lost, [])
+
     def test_architecture_says_how_long_the_longest_chain_is(self):
         program = calls.groups()["program"]
         depth = {}
