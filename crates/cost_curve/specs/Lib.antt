@@ -1,4 +1,4 @@
 pub mod Building
 pub mod CostCurve
 pub mod Edges
-pub mod Legs
+pub mod EnvelopePieces

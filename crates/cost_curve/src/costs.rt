@@ -5,7 +5,7 @@ ghost use Rattle.uc_model.specs.Envelope.{envelope, line_at};
 ghost use Rattle.plain_lists.specs.Ranges.{IsFrom};
 ghost use Rattle.uc_model.specs.Limits.{IsCost, IsPoint, IsPower, Spans};
 ghost use Rattle.cost_curve.specs.CostCurve.{AreCostPoints};
-ghost use Rattle.cost_curve.specs.Legs.{IsLeg, IsNear, IsOn};
+ghost use Rattle.cost_curve.specs.EnvelopePieces.{IsEnvelopePiece, IsNear, IsOn};
 
 use crate::edges::{Edge, Slope};
 use crate::walk::{first_envelope_point, next_envelope_point};
@@ -41,11 +41,11 @@ pub struct EnvelopePiece {
     way: Option<Edge>,
 }
 
-// The leg that a power is on.
+// The piece that a power is on.
 fn envelope_piece_of_power(points: &[Point], x: i64) -> EnvelopePiece
     requires points { AreCostPoints points.now }
     requires within { Spans points.now x x }
-    ensures piece { IsLeg points.now result }
+    ensures piece { IsEnvelopePiece points.now result }
     ensures on { IsOn points.now x result }
 {
     let mut from = first_envelope_point(points);
@@ -61,9 +61,9 @@ fn envelope_piece_of_power(points: &[Point], x: i64) -> EnvelopePiece
     EnvelopePiece { from, way: None }
 }
 
-// Whether a power is on a leg.
+// Whether a power is on a piece.
 fn is_power_on_envelope_piece(points: &[Point], x: i64, piece: EnvelopePiece) -> bool
-    requires { IsLeg points.now piece }
+    requires { IsEnvelopePiece points.now piece }
     ensures { IsTrue result → IsOn points.now x piece }
 {
     if x < points[piece.from].at {
@@ -75,11 +75,11 @@ fn is_power_on_envelope_piece(points: &[Point], x: i64, piece: EnvelopePiece) ->
     }
 }
 
-// The cost of a power that is on a leg.
+// The cost of a power that is on a piece.
 fn cost_on_envelope_piece(points: &[Point], x: i64, piece: EnvelopePiece) -> i64
     requires points { AreCostPoints points.now }
     requires within { Spans points.now x x }
-    requires piece { IsLeg points.now piece }
+    requires piece { IsEnvelopePiece points.now piece }
     requires on { IsOn points.now x piece }
     ensures value { result ≡ envelope points.now x }
     ensures limit { IsCost result }
@@ -104,7 +104,7 @@ pub fn envelope_at(points: &[Point], x: i64) -> i64
     cost_on_envelope_piece(points, x, envelope_piece_of_power(points, x))
 }
 
-/// The same cost, found sooner where the power is on the leg in `near`, which is one of the same
+/// The same cost, found sooner where the power is on the piece in `near`, which is one of the same
 /// points: the one that the call before left there. Takes no memory.
 pub fn envelope_cost_with_cached_piece(
     points: &[Point],

@@ -12,7 +12,7 @@ ghost use Rattle.uc_model.specs.PlainCases.{market_of, schedules_of};
 ghost use Rattle.uc_model.specs.PlainUnits.{thermal_of, bid_of, schedule_of};
 ghost use Rattle.uc_model.specs.Schedules.{time_down, IsThermalFeasible};
 ghost use Rattle.uc_model.specs.Systems.{plan_cost, IsFeasiblePlan};
-ghost use Rattle.cost_curve.specs.Legs.{IsNear};
+ghost use Rattle.cost_curve.specs.EnvelopePieces.{IsNear};
 ghost use Rattle.plan_check.specs.Costs.{sum_over, thermal_units, bid_units, production_at};
 ghost use Rattle.plan_check.specs.Costs.{start_cost_at};
 
@@ -22,7 +22,7 @@ use uc_model::cases::{Case, Plan};
 use uc_model::rules::start_cost;
 use uc_model::units::{Bid, Block, Response, Unit};
 
-// What the power at an index costs. `near` has the leg of the power before it.
+// What the power at an index costs. `near` has the piece of the power before it.
 fn power_cost(
     unit: &Unit,
     response: &Response,

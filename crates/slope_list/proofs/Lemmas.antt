@@ -10,7 +10,7 @@ pub use Rattle.slope_list.proofs.LineLaws.{line_sum, line_product, line_part}
 pub use Rattle.slope_list.proofs.PieceLaws.{ends_rise_to, along_first}
 pub use Rattle.slope_list.proofs.RunLaws.{gentle_slope, cursor_in, run_falls, run_rises, cursor_coded, turn_coded}
 pub use Rattle.slope_list.proofs.RunLaws.{reach_coded, reach_fits, high_near, last_coded, before_both}
-pub use Rattle.slope_list.proofs.WayLaws.{before_moved, run_power, run_line, run_placed, IsEnded, run_ended}
+pub use Rattle.slope_list.proofs.ProgressLaws.{before_moved, run_power, run_line, run_placed, IsEnded, run_ended}
 pub use Rattle.slope_list.proofs.WindowLaws.{line_level_to, fewer_flat, runs_most, nearest_inside, nearer, falling_at}
 pub use Rattle.slope_list.proofs.WindowLaws.{flat_at, rising_at, level_joined, flat_from_line, flat_here}
 pub use Rattle.slope_list.proofs.OrderLaws.{same_le, le_lt, le_trans, lt_le_trans}

@@ -46,8 +46,8 @@ pub mod RunLaws
 pub mod TableLaws
 -- a valley as a table, and the window over it
 pub mod ReachLaws
--- the way along a run
-pub mod WayLaws
+-- the progress along a run
+pub mod ProgressLaws
 -- the parts of a step together
 pub mod StepLaws
 -- the values of a step are within the limits

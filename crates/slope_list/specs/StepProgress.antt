@@ -1,4 +1,4 @@
--- The way over the runs of a step (this project's profile).
+-- The progress over the runs of a step (this project's profile).
 use Rattle.std.specs.Prelude.{◌+◌, ◌≤◌, ℤ, ◌≤ℤ◌, ◌<ℤ◌, List}
 use Rattle.uc_model.specs.declared.units.Curve.{Curve}
 use Rattle.slope_list.specs.declared.piece.Piece.{Piece}
@@ -11,7 +11,7 @@ use Rattle.slope_list.specs.Window.{runs_from}
 use Rattle.slope_list.specs.declared.progress.StepProgress.{StepProgress}
 use Rattle.slope_list.specs.After.{stepped}
 
--- the way went on from one power to a later one, and what lies between them is written
+-- the progress went on from one power to a later one, and what lies between them is written
 pub record IsFurther (w : Window) (c : Curve) (old new : List Piece) (from to : StepProgress) : Type 0 where
   pub drawn : (lo : ℤ) → IsDrawn (stepped w.start w.pieces.now w.step w.turn c) lo old from.pen
       → IsDrawn (stepped w.start w.pieces.now w.step w.turn c) lo new to.pen

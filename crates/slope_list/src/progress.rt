@@ -1,4 +1,4 @@
-//! The way through a step, run by run.
+//! The progress through a step, run by run.
 ghost use Rattle.std.specs.Prelude.{◌≡◌, ℤ, ◌+◌, ◌≤◌, ◌+ℤ◌, ◌≤ℤ◌, ◌<ℤ◌, length};
 ghost use Rattle.slope_list.specs.Curve.{IsLimitedCurve};
 ghost use Rattle.slope_list.specs.Table.{IsPlace};
@@ -18,7 +18,7 @@ use crate::run::{Run, next_run_of_pieces};
 use crate::window::{Window, cursor_past_flat_piece, is_in_flat_part};
 use uc_model::units::Curve;
 
-/// Where a way through a step is: the cursor before the step, and the pen after it.
+/// How far a step is taken: the cursor before the step, and the pen after it.
 #[derive(Clone, Copy)]
 pub(crate) struct StepProgress {
     pub cursor: Cursor,
@@ -124,7 +124,7 @@ fn write_flat_part(
     }
 }
 
-/// Writes the flat part or the run that the way is at.
+/// Writes the flat part or the run that the progress is at.
 fn write_next_run_or_flat_part(
     window: &Window<'_>,
     curve: &Curve,

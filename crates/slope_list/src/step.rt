@@ -40,7 +40,7 @@ pub struct Stepped {
     pub turn: i64,
 }
 
-/// Where the way through a step begins: the first power after it, and the power before it that is
+/// Where a step begins: the first power after it, and the power before it that is
 /// nearest to the least value.
 #[derive(Clone, Copy)]
 pub(crate) struct Opening {

@@ -10,7 +10,7 @@ use std::test::Fail;
 use test_shapes::{curve_at, curve_of};
 use uc_model::units::{Blocks, Curve, Point};
 
-// The cost at a place, by the points, by the leg that it is on, and by a curve of them.
+// The cost at a place, by the points, by the piece that it is on, and by a curve of them.
 fn has_cost(rt: &impl Abort, points: &[Point], curve: &Curve, x: i64, cost: i64)
     requires points { AreCostPoints points.now }
     requires place { Spans points.now x x }

@@ -14,8 +14,8 @@ charge_less periods points blocks few = mul-le-mul_left periods (omega (arith, f
 
 pub bench_kept : (periods points : ℕ) (old new : Bench) →
     length old.curve.blocks.items + old.curve.blocks.spare ≡ length new.curve.blocks.items + new.curve.blocks.spare →
-    length new.runners.items ≡ length old.runners.items →
-    ((room : ℕ) → HaveRoom room old.runners.items → HaveRoom room new.runners.items) →
+    length new.spells.items ≡ length old.spells.items →
+    ((room : ℕ) → HaveRoom room old.spells.items → HaveRoom room new.spells.items) →
     space_of new.shared.spare ≡ space_of old.shared.spare →
     length new.shared.log.items + new.shared.log.spare ≡ length old.shared.log.items + old.shared.log.spare →
     length new.table.items ≡ length old.table.items →
@@ -40,14 +40,14 @@ bench_kept periods points old new curve count keeps spare log rows list firsts e
 pub way_found : (u : ThermalUnit) (π : PriceLists) (b : Bench) (found : Option Entry) →
     IfSome found (λ e. IsEndWithin u π b.table.items e.last e.cost) →
     CanBacktrack u π (length π.energy) (cost_at b.table.items) (first_at b.table.items)
-    (left_at b.shared.log.items b.runners.items) → AreTraces b.shared.log.items b.runners.items →
-    length π.energy < length b.table.items → length π.energy < length b.runners.items →
+    (left_at b.shared.log.items b.spells.items) → AreTraces b.shared.log.items b.spells.items →
+    length π.energy < length b.table.items → length π.energy < length b.spells.items →
     IfSome found (λ e. HasWayFrom u π e b)
-way_found u π b None least backtracks traces rows runners = tt
-way_found u π b (Some e) least backtracks traces rows runners =
-    record { least = least; backtracks = backtracks; traces = traces; rows = rows; runners = runners }
+way_found u π b None least backtracks traces rows spells = tt
+way_found u π b (Some e) least backtracks traces rows spells =
+    record { least = least; backtracks = backtracks; traces = traces; rows = rows; spells = spells }
 
--- ---- runners made one by one
+-- ---- running spells made one by one
 
 get_append : {X : Type 0} (xs : List X) (r : X) (i : ℕ) (x : X) → slice_get (xs ++ r ∷ []) i ≡ Some x →
     (slice_get xs i ≡ Some x) ⊎ (r ≡ x)
@@ -56,10 +56,10 @@ get_append [] r (suc i) x h = cc
 get_append (y ∷ ys) r zero x h = inl h
 get_append (y ∷ ys) r (suc i) x h = get_append ys r i x h
 
-pub room_more : (most : ℕ) (runners runners' : List RunningSpell) (r : RunningSpell) →
-    runners' ≡ runners ++ r ∷ [] → most ≡ room_of r.running → HaveRoom most runners → HaveRoom most runners'
-room_more most runners runners' r is fits have f x there =
-    elim (get_append runners r f x (ap (λ xs. slice_get xs f) (sym is) ∙ there)) [
+pub room_more : (most : ℕ) (spells spells' : List RunningSpell) (r : RunningSpell) →
+    spells' ≡ spells ++ r ∷ [] → most ≡ room_of r.running → HaveRoom most spells → HaveRoom most spells'
+room_more most spells spells' r is fits have f x there =
+    elim (get_append spells r f x (ap (λ xs. slice_get xs f) (sym is) ∙ there)) [
       | inl before ↦ have f x before
       | inr same ↦ subst (λ x. most ≡ room_of x.running) same fits
     ]

@@ -17,12 +17,12 @@ pub use Rattle.unit_rows.specs.Limits.{capped}
 pub use Rattle.unit_table.specs.Limits.{IsRowWithin, IsFilledWithin, IsEndWithin, EachCostsMore}
 pub use Rattle.unit_table.specs.Live.{HaveRoom, AreTraces, left_of, left_at}
 pub use Rattle.unit_rows.specs.Rows.{row_at, cost_at, first_at, before_at, HasEntryAtMost, IsWithinTimes}
-pub use Rattle.unit_table.specs.Runners.{CanBacktrack, since}
+pub use Rattle.unit_table.specs.RunningSpells.{CanBacktrack, since}
 pub use Rattle.unit_rows.specs.Spells.{IsSpell, start_cost_after, IsOffRun, paid, on_time, off_time, IsGap}
 pub use Rattle.unit_rows.specs.Spells.{period_cost}
 pub use Rattle.unit_table.specs.Tables.{IsEnded, IsLatest, IsComplete}
 pub use Rattle.unit_rows.specs.Ends.{IsStarted, IsEntryAfter, IsLeastEnd, HasAtMost}
-pub use Rattle.unit_table.specs.declared.runner.RunningSpell.{RunningSpell}
+pub use Rattle.unit_table.specs.declared.running_spell.RunningSpell.{RunningSpell}
 pub use Rattle.unit_rows.specs.declared.table.Ended.{Ended}
 pub use Rattle.unit_rows.specs.declared.table.Entry.{Entry}
 pub use Rattle.slope_list.specs.Slopes.{room_of, space_of}

@@ -7,15 +7,15 @@ use Rattle.unit_program.specs.declared.bench.Bench.{Bench}
 use Rattle.unit_table.specs.Limits.{IsEndWithin}
 use Rattle.unit_table.specs.Live.{HaveRoom, HasRoomFor, AreTraces, left_at}
 use Rattle.unit_rows.specs.Rows.{cost_at, first_at}
-use Rattle.unit_table.specs.Runners.{CanBacktrack}
+use Rattle.unit_table.specs.RunningSpells.{CanBacktrack}
 use Rattle.unit_rows.specs.declared.table.Entry.{Entry}
 
 -- its parts suffice for the answers of a unit with so many cost points over so many periods
 pub record IsBenchFor (periods points : ℕ) (b : Bench) : Type 0 where
   pub blocks : 2 * points ≤ length b.curve.blocks.items + b.curve.blocks.spare
-  pub count : periods < length b.runners.items
+  pub count : periods < length b.spells.items
   pub space : periods * (2 * points + 3) ≤ space_of b.shared.spare
-  pub room : HaveRoom (space_of b.shared.spare) b.runners.items
+  pub room : HaveRoom (space_of b.shared.spare) b.spells.items
   pub log : HasRoomFor periods b.shared.log
   pub rows : periods < length b.table.items
   pub origins : periods < length b.origins.list.items
@@ -33,7 +33,7 @@ pub record HasWayFrom (u : ThermalUnit) (π : PriceLists) (end : Entry) (b : Ben
   pub least : IsEndWithin u π b.table.items end.last end.cost
   pub backtracks :
       CanBacktrack u π (length π.energy) (cost_at b.table.items) (first_at b.table.items)
-      (left_at b.shared.log.items b.runners.items)
-  pub traces : AreTraces b.shared.log.items b.runners.items
+      (left_at b.shared.log.items b.spells.items)
+  pub traces : AreTraces b.shared.log.items b.spells.items
   pub rows : length π.energy < length b.table.items
-  pub runners : length π.energy < length b.runners.items
+  pub spells : length π.energy < length b.spells.items

@@ -1,4 +1,4 @@
-//! Backtracking by what the runners left.
+//! Backtracking by what the running spells left.
 ghost use Rattle.std.specs.Prelude.{◌≡◌, ◌<◌, ◌≤◌, length};
 ghost use Rattle.spell_run.specs.Notes.{IsSpellNoted};
 ghost use Rattle.uc_model.specs.Data.{Thermal};
@@ -10,7 +10,7 @@ ghost use Rattle.unit_program.specs.Builds.{IsIdle};
 ghost use Rattle.unit_table.specs.Limits.{IsRowWithin, IsEndWithin};
 ghost use Rattle.unit_table.specs.Live.{left_at, AreTraces};
 ghost use Rattle.unit_rows.specs.Rows.{cost_at, first_at};
-ghost use Rattle.unit_table.specs.Runners.{CanBacktrack, since};
+ghost use Rattle.unit_table.specs.RunningSpells.{CanBacktrack, since};
 
 use crate::least_end::{earnings_of_cost, is_all_off, turn_all_off};
 use spell_run::{Logged, SpellTrace, write_least_cost_dispatch_of_spell};
@@ -18,13 +18,13 @@ use uc_model::laws::start_costs_are_within;
 use uc_model::units::{Answered, Prices, Unit};
 use unit_rows::table::{Ended, Entry};
 use unit_table::laws::rows_within_cost_limits_are_kept;
-use unit_table::runner::RunningSpell;
+use unit_table::running_spell::RunningSpell;
 
 /// What all spells of a table left.
 #[derive(Clone, Copy)]
 pub struct Backtracks<'a> {
-    /// A runner for each first period, each with its last entry of the log.
-    pub runners: &'a [RunningSpell],
+    /// A running spell for each first period, each with its last entry of the log.
+    pub spells: &'a [RunningSpell],
     /// The entries of all of them.
     pub log: &'a [Logged],
 }
@@ -41,11 +41,11 @@ fn write_spell_dispatch(
 )
     requires order { first ≤ last }
     requires end { last ≤ length (prices_of prices.now).energy }
-    requires runners { first < length backtracks.runners.now }
-    requires traces { AreTraces backtracks.log.now backtracks.runners.now }
+    requires spells { first < length backtracks.spells.now }
+    requires traces { AreTraces backtracks.log.now backtracks.spells.now }
     requires noted { 1 ≤ last
         → IsSpellNoted (thermal_of unit.now) (prices_of prices.now) first last
-        (since first (left_at backtracks.log.now backtracks.runners.now first)) }
+        (since first (left_at backtracks.log.now backtracks.spells.now first)) }
     requires into { length (schedule_of into.old.response).on
         ≡ length (prices_of prices.now).energy }
     ensures written { IsWritten (thermal_of unit.now) (prices_of prices.now)
@@ -57,7 +57,7 @@ fn write_spell_dispatch(
     if last > 0 {
         let left = SpellTrace {
             log: backtracks.log,
-            trace: backtracks.runners[first as usize].trace,
+            trace: backtracks.spells[first as usize].trace,
         };
         write_least_cost_dispatch_of_spell(unit, prices, first, last, left, into);
     }
@@ -75,10 +75,10 @@ fn write_earlier_spells(
     requires within { IsRowWithin (thermal_of unit.now) (prices_of prices.now) rows.now last }
     requires backtracks { CanBacktrack (thermal_of unit.now) (prices_of prices.now)
         (length (prices_of prices.now).energy) (cost_at rows.now) (first_at rows.now)
-        (left_at backtracks.log.now backtracks.runners.now) }
-    requires traces { AreTraces backtracks.log.now backtracks.runners.now }
+        (left_at backtracks.log.now backtracks.spells.now) }
+    requires traces { AreTraces backtracks.log.now backtracks.spells.now }
     requires room { length (prices_of prices.now).energy < length rows.now }
-    requires runners { length (prices_of prices.now).energy < length backtracks.runners.now }
+    requires spells { length (prices_of prices.now).energy < length backtracks.spells.now }
     requires last { last ≤ length (prices_of prices.now).energy }
     requires into { length (schedule_of into.old.response).on
         ≡ length (prices_of prices.now).energy }
@@ -117,10 +117,10 @@ pub fn write_best_response(
 )
     requires backtracks { CanBacktrack (thermal_of unit.now) (prices_of prices.now)
         (length (prices_of prices.now).energy) (cost_at rows.now) (first_at rows.now)
-        (left_at backtracks.log.now backtracks.runners.now) }
-    requires traces { AreTraces backtracks.log.now backtracks.runners.now }
+        (left_at backtracks.log.now backtracks.spells.now) }
+    requires traces { AreTraces backtracks.log.now backtracks.spells.now }
     requires room { length (prices_of prices.now).energy < length rows.now }
-    requires runners { length (prices_of prices.now).energy < length backtracks.runners.now }
+    requires spells { length (prices_of prices.now).energy < length backtracks.spells.now }
     requires end { IsEndWithin (thermal_of unit.now) (prices_of prices.now) rows.now end.now.last
         end.now.cost }
     requires into { length (schedule_of into.old.response).on

@@ -7,7 +7,7 @@ ghost use Rattle.unit_program.specs.Benches.{IsBenchFor, HasWayFrom};
 ghost use Rattle.unit_table.specs.Limits.{IsFilledWithin, EachCostsMore};
 ghost use Rattle.unit_table.specs.Live.{left_at, AreTraces, HaveRoom};
 ghost use Rattle.unit_rows.specs.Rows.{cost_at, first_at};
-ghost use Rattle.unit_table.specs.Runners.{CanBacktrack};
+ghost use Rattle.unit_table.specs.RunningSpells.{CanBacktrack};
 
 use crate::backtrack::{Backtracks, write_best_response};
 use crate::kept::{Kept, NO_BOUND};
@@ -27,7 +27,7 @@ use unit_table::laws::rows_within_cost_limits_are_kept;
 use unit_table::periods::fill_table;
 use unit_table::question::Question;
 use unit_table::roster::Roster;
-use unit_table::runner::RunningSpell;
+use unit_table::running_spell::RunningSpell;
 use unit_table::shared::Shared;
 
 /// Memory for the answers of units over so many periods, with so many cost points. What it holds
@@ -35,7 +35,7 @@ use unit_table::shared::Shared;
 pub struct Bench {
     curve: Curve,
     // The spells that go forward together.
-    runners: Vec<RunningSpell>,
+    spells: Vec<RunningSpell>,
     // What they write to by turns.
     shared: Shared,
     // The ends that the next start may follow.
@@ -54,7 +54,7 @@ impl Drop for Bench {
     fn drop(self) {
         let Bench {
             curve: _,
-            runners: _,
+            spells: _,
             shared: _,
             origins: _,
             roster: _,
@@ -65,7 +65,7 @@ impl Drop for Bench {
     }
 }
 
-// So many runners, none of them on, each with room for so many pieces.
+// So many running spells, none of them on, each with room for so many pieces.
 fn make_running_spells(
     alloc: Global,
     count: u32,
@@ -74,19 +74,19 @@ fn make_running_spells(
     ensures count { IfOk result (λ v. length v.items ≡ count) }
     ensures room { IfOk result (λ v. HaveRoom pieces v.items) }
 {
-    let mut runners = Vec::with_capacity(alloc, count as usize)?;
+    let mut spells = Vec::with_capacity(alloc, count as usize)?;
     for _ in 0..count {
         let running = Slopes::make(alloc, pieces)?;
-        let runner = RunningSpell {
+        let spell = RunningSpell {
             is_on: false,
             cost: 0,
             before: 0,
             running,
             trace: Trace::none(),
         };
-        runners.push_reserved(runner);
+        spells.push_reserved(spell);
     }
-    Ok(runners)
+    Ok(spells)
 }
 
 // Fills a bench's curve, its limits and its table.
@@ -100,8 +100,8 @@ fn fill_least_cost_table_for_prices(bench: &mut Bench, unit: &Unit, prices: &Pri
     ensures backtracks { CanBacktrack (thermal_of unit.now) (prices_of prices.now)
         (length (prices_of prices.now).energy) (cost_at bench.new.table.items)
         (first_at bench.new.table.items)
-        (left_at bench.new.shared.log.items bench.new.runners.items) }
-    ensures traces { AreTraces bench.new.shared.log.items bench.new.runners.items }
+        (left_at bench.new.shared.log.items bench.new.spells.items) }
+    ensures traces { AreTraces bench.new.shared.log.items bench.new.spells.items }
     ensures bench { (periods points : ℕ) → IsBenchFor periods points bench.old
         → IsBenchFor periods points bench.new }
 {
@@ -117,7 +117,7 @@ fn fill_least_cost_table_for_prices(bench: &mut Bench, unit: &Unit, prices: &Pri
         &question,
         &mut bench.origins,
         &mut bench.roster,
-        bench.runners.as_mut_slice(),
+        bench.spells.as_mut_slice(),
         &mut bench.table,
         &mut bench.shared,
     );
@@ -193,15 +193,15 @@ impl Bench {
         let blocks = Blocks::make(alloc, 2 * points)?;
         let kept = Kept::make(alloc, periods)?;
         let shared = Shared::make(alloc, periods, pieces as usize)?;
-        // The runners come last, so that no early return has to drop them.
-        let runners = make_running_spells(alloc, rows, pieces as usize)?;
+        // The running spells come last, so that no early return has to drop them.
+        let spells = make_running_spells(alloc, rows, pieces as usize)?;
         Ok(Bench {
             curve: Curve {
                 at: 0,
                 value: 0,
                 blocks,
             },
-            runners,
+            spells,
             shared,
             origins,
             roster,
@@ -265,9 +265,9 @@ impl Bench {
         ensures earned { into.new.earned ≡ earnings (Thermal (thermal_of unit.now))
             (prices_of prices.now) (schedule_of into.new.response) }
     {
-        let runners = self.runners.as_slice();
+        let spells = self.spells.as_slice();
         let log = self.shared.log.as_slice();
-        let backtracks = Backtracks { runners, log };
+        let backtracks = Backtracks { spells, log };
         write_best_response(unit, prices, self.table.as_slice(), backtracks, end, into);
     }
 

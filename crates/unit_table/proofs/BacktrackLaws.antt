@@ -1,10 +1,10 @@
--- What the runners left for backtracking from each row.
+-- What the running spells left for backtracking from each row.
 use Rattle.unit_table.proofs.Common.{◌≡◌, ◌≢◌, ℕ, suc, ◌-◌, ◌<◌, ◌≤◌, ◌⊎◌, inl, inr, Option, Some, None, ℤ, ◌+ℤ◌, List}
 use Rattle.unit_table.proofs.Common.{length, sym, ap, ◌∙◌, subst, arith, IfSome, IfNone, cases_lt, cases_eq, Table}
 use Rattle.unit_table.proofs.Common.{value_of, Lowest, ThermalUnit, PriceLists, Passed, IsFrontier, IsOnNoted}
 use Rattle.unit_table.proofs.Common.{IsEndNoted, IsSpellNoted, since, end_cost, Ended, refl, AreFewer, IsGoneOn}
 use Rattle.unit_table.proofs.Common.{AreAllNoted}
-use Rattle.unit_table.proofs.Common.{row_at, first_at, IsPut, Going, AreRunners, AreNoted, IsRowOf}
+use Rattle.unit_table.proofs.Common.{row_at, first_at, IsPut, Going, AreRunningSpells, AreNoted, IsRowOf}
 use Rattle.unit_table.proofs.Common.{IsEndLeft, CanBacktrack}
 use Rattle.unit_table.proofs.RowLaws.{first-is}
 
@@ -144,7 +144,7 @@ ways_none g π t ends firsts left none backtracks l v one until is = elim (cases
 
 module _ (g : ThermalUnit) (π : PriceLists) (t n : ℕ) (ends ends' : ℕ → Option ℤ) (firsts firsts' : ℕ →
     ℕ) (before : ℕ) (left left' : ℕ → ℕ → Passed) (live : ℕ → Option Going)
-    (limits : ℕ → ℤ) (now : AreRunners g π limits ends live t n) (all_noted : AreAllNoted g π t live left)
+    (limits : ℕ → ℤ) (now : AreRunningSpells g π limits ends live t n) (all_noted : AreAllNoted g π t live left)
     (row : IsRowOf g π (length π.energy) live n (suc t) (ends' (suc t)) (firsts' (suc t)) before)
     (ended : (v : ℤ) → ends' (suc t) ≡ Some v → IsEndLeft g π (firsts' (suc t)) t
     (since (firsts' (suc t)) (left' (firsts' (suc t))) t))
@@ -156,11 +156,11 @@ module _ (g : ThermalUnit) (π : PriceLists) (t n : ℕ) (ends ends' : ℕ → O
       let first = firsts' (suc t) in
       let s = row.sound v is in
       let r = s.0 in
-      let runner = (now.right first r s.1).1 in
+      let running_spell = (now.right first r s.1).1 in
       let e = ended v is in
       let noted = e.2.1 in
       let reached = noted.frontier.sound _ noted.value noted.begins.there in
-      let c = runner.frontier.complete reached.run reached.keeps in
+      let c = running_spell.frontier.complete reached.run reached.keeps in
       let z : suc t - 1 ≡ t = omega arith in (
         s.4.order,
         record {

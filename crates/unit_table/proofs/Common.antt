@@ -22,15 +22,16 @@ pub use Rattle.unit_table.specs.Questions.{unit_of, prices_in, periods_in, charg
 pub use Rattle.unit_table.specs.Questions.{Asked, asked, asked_at, periods_of}
 pub use Rattle.unit_table.specs.Rosters.{IsRoster}
 pub use Rattle.unit_rows.specs.Rows.{row_at, cost_at, AreWithin, IsFirstRow, IsWithinTimes, first_at, before_at, IsPut}
-pub use Rattle.unit_table.specs.Runners.{IsTableTo, Going, AreRunners, IsRowOf, IsGoneOn, MayBeOn, IsEndLeft, IsRunner}
-pub use Rattle.unit_table.specs.Runners.{HasStandIn, AreNoted, AreAllNoted, CanBacktrack, IsBegun, since}
+pub use Rattle.unit_table.specs.RunningSpells.{IsTableTo, Going, AreRunningSpells, IsRowOf, IsGoneOn, MayBeOn}
+pub use Rattle.unit_table.specs.RunningSpells.{IsEndLeft, IsRunningSpell}
+pub use Rattle.unit_table.specs.RunningSpells.{HasStandIn, AreNoted, AreAllNoted, CanBacktrack, IsBegun, since}
 pub use Rattle.unit_rows.specs.Spells.{StopsAtOnce, IsSpell, off_time, on_time}
 pub use Rattle.unit_table.specs.Taken.{AreFewer, IsKeptFrom, AreKept, IsRowTo, IsRowMore, IsOneRun, IsRunOver}
 pub use Rattle.unit_table.specs.Taken.{IsSweptTo, AreAsLong, HaveSameRooms, IsEntryMore}
 pub use Rattle.unit_rows.specs.Ends.{HasAtMost, IsEntryAfter, IsStarted, IsLeastEntry, IsEntry}
 pub use Rattle.unit_table.specs.Tables.{IsEnded, IsLatest}
 pub use Rattle.unit_rows.specs.declared.origins.Origin.{Origin}
-pub use Rattle.unit_table.specs.declared.runner.RunningSpell.{RunningSpell}
+pub use Rattle.unit_table.specs.declared.running_spell.RunningSpell.{RunningSpell}
 pub use Rattle.unit_rows.specs.declared.table.Ended.{Ended}
 pub use Rattle.slope_list.specs.Table.{Table, value_of}
 pub use Rattle.slope_list.specs.Slopes.{shown, count_of, room_of, space_of}

@@ -17,7 +17,7 @@ pub use Rattle.unit_table.proofs.RosterLaws.{none_listed, one_listed, none_kept,
 pub use Rattle.unit_table.proofs.RosterLaws.{first_inside, IsKeptTo}
 pub use Rattle.unit_table.proofs.RowLaws.{cost-same, first-same}
 pub use Rattle.unit_table.proofs.RunAllLaws.{run_begins, run_over, item_at, run_written, run_skipped}
-pub use Rattle.unit_table.proofs.RunnerRowLaws.{row_end}
+pub use Rattle.unit_table.proofs.RunningSpellRowLaws.{row_end}
 pub use Rattle.unit_table.proofs.StandInLaws.{may_next, beyond_goes, early_goes, none_starts, start_undercut}
 pub use Rattle.unit_table.proofs.StandInLaws.{starts_beyond, start_beyond}
 pub use Rattle.unit_table.proofs.StartLaws.{started, none_goes_on, one_goes_on}

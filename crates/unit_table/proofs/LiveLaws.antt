@@ -1,4 +1,4 @@
--- A list of runners, and one of them written.
+-- A list of running spells, and one of them written.
 use Rattle.unit_table.proofs.Common.{state_of, cases_lt}
 use Rattle.unit_table.proofs.Common.{count_of, room_of}
 use Rattle.unit_table.proofs.Common.{◌≡◌, ◌≢◌, ℕ, zero, suc, ◌+◌, ◌-◌, ◌*◌, ◌<◌, ◌≤◌, inl, inr, Bool, true, false, cond}
@@ -8,13 +8,14 @@ use Rattle.unit_table.proofs.Common.{cases_eq, Table, value_of, ThermalUnit, Pri
 use Rattle.unit_table.proofs.Common.{HaveSameRooms, left_by, IsTrace, AreTraces, ◌⊎◌}
 use Rattle.spell_run.specs.Logs.{AreLogged}
 use Rattle.unit_table.proofs.Common.{going_of, live_at, left_of, left_at, AreRoomy, AreSmall, IsUnder, IsBeyond}
-use Rattle.unit_table.proofs.Common.{IsBelow, HaveRoom, Going, AreRunners, AreFewer, IsKeptFrom, AreKept, length-set}
+use Rattle.unit_table.proofs.Common.{IsBelow, HaveRoom, Going, AreRunningSpells, AreFewer, IsKeptFrom, AreKept}
+use Rattle.unit_table.proofs.Common.{length-set}
 use Rattle.plain_lists.proofs.ListLaws.{get_set_same, get_set_other}
 use Rattle.std.proofs.Math.Nat.{mul-le-mul_right}
 
--- the runners are small
+-- the running spells are small
 pub small_of : (g : ThermalUnit) (π : PriceLists) (limits : ℕ → ℤ) (ends : ℕ → Option ℤ) (live : ℕ →
-    Option Going) (t n : ℕ) → t ≤ 168 → n ≤ 170 → AreRunners g π limits ends live t n → AreSmall live
+    Option Going) (t n : ℕ) → t ≤ 168 → n ≤ 170 → AreRunningSpells g π limits ends live t n → AreSmall live
 small_of g π limits ends live t n few low now f r is =
     let h = now.right f r is in
     record {
@@ -29,7 +30,7 @@ when_some : {X : Type 0} (b : Bool) (a x : X) → cond b (Some a) None ≡ Some 
 when_some true a x is = (refl, (cc))
 when_some false a x is = absurd (cc)
 
--- a runner that is on is one of the list
+-- a running spell that is on is one of the list
 pub on_some : (o : Option RunningSpell) (x : Going) → going_of o ≡ Some x →
     (r : RunningSpell) × (o ≡ Some r) × (r.is_on ≡ true) × (x ≡ state_of r)
 on_some None x is = absurd (cc)
@@ -46,16 +47,16 @@ going_off r off = cc
 pub on_same : (o : Option RunningSpell) (r s : RunningSpell) → o ≡ Some r → o ≡ Some s → r.is_on ≡ true → s.is_on ≡ true
 on_same o r s a b on = (let same : r ≡ s = (cc) in rw same at on)
 
-module _ (runners : List RunningSpell) (i : ℕ) (r : RunningSpell) (is : slice_get runners i ≡ Some r) where
-  pub live_from : r.is_on ≡ true → live_at runners i ≡ Some (state_of r)
+module _ (spells : List RunningSpell) (i : ℕ) (r : RunningSpell) (is : slice_get spells i ≡ Some r) where
+  pub live_from : r.is_on ≡ true → live_at spells i ≡ Some (state_of r)
   live_from on = ap going_of is ∙ going_on r on
 
-  pub off_from : r.is_on ≡ false → live_at runners i ≡ None
+  pub off_from : r.is_on ≡ false → live_at spells i ≡ None
   off_from off = cc
 
   -- where it is known to be on
-  pub on_from : (x : Going) → live_at runners i ≡ Some x → r.is_on ≡ true
-  on_from x on = (let s = on_some (slice_get runners i) x on in on_same _ s.0 r s.1 is s.2)
+  pub on_from : (x : Going) → live_at spells i ≡ Some x → r.is_on ≡ true
+  on_from x on = (let s = on_some (slice_get spells i) x on in on_same _ s.0 r s.1 is s.2)
 
 -- ---- one above another
 
@@ -74,26 +75,26 @@ beyond_of f e limit above x v there = (let over = above x v there in omega (arit
 
 -- ---- one of the list written
 
-module _ (runners runners' : List RunningSpell) (i : ℕ) (a : RunningSpell)
-    (room : i < length runners) (set : runners' ≡ slice_set runners i a) where
-  pub written_here : slice_get runners' i ≡ Some a
-  written_here = ap (λ (xs : List RunningSpell). slice_get xs i) set ∙ get_set_same runners i a room
+module _ (spells spells' : List RunningSpell) (i : ℕ) (a : RunningSpell)
+    (room : i < length spells) (set : spells' ≡ slice_set spells i a) where
+  pub written_here : slice_get spells' i ≡ Some a
+  written_here = ap (λ (xs : List RunningSpell). slice_get xs i) set ∙ get_set_same spells i a room
 
-  pub written_other : (j : ℕ) → j ≢ i → slice_get runners' j ≡ slice_get runners j
-  written_other j other = ap (λ (xs : List RunningSpell). slice_get xs j) set ∙ get_set_other runners i j a other
+  pub written_other : (j : ℕ) → j ≢ i → slice_get spells' j ≡ slice_get spells j
+  written_other j other = ap (λ (xs : List RunningSpell). slice_get xs j) set ∙ get_set_other spells i j a other
 
-  pub live_here : live_at runners' i ≡ going_of (Some a)
+  pub live_here : live_at spells' i ≡ going_of (Some a)
   live_here = ap going_of written_here
 
-  pub live_other : (j : ℕ) → j ≢ i → live_at runners' j ≡ live_at runners j
+  pub live_other : (j : ℕ) → j ≢ i → live_at spells' j ≡ live_at spells j
   live_other j other = ap going_of (written_other j other)
 
-  -- what holds of each runner
+  -- what holds of each running spell
   pub each_written : (P : RunningSpell → Type 0) → P a →
-      ((j : ℕ) (r : RunningSpell) → slice_get runners j ≡ Some r → P r) →
-      (j : ℕ) (r : RunningSpell) → slice_get runners' j ≡ Some r → P r
+      ((j : ℕ) (r : RunningSpell) → slice_get spells j ≡ Some r → P r) →
+      (j : ℕ) (r : RunningSpell) → slice_get spells' j ≡ Some r → P r
   each_written P here all j r is = elim (cases_eq j i) [
-    | inl z ↦ (let same : a ≡ r = (let e = ap (λ (k : ℕ). slice_get runners' k) z in let w = written_here in cc) in
+    | inl z ↦ (let same : a ≡ r = (let e = ap (λ (k : ℕ). slice_get spells' k) z in let w = written_here in cc) in
         subst P same here)
     | inr other ↦ all j r (sym (written_other j other) ∙ is)
   ]
@@ -130,7 +131,7 @@ slice_get_none [] f h = omega arith
 slice_get_none (x ∷ xs) zero h = cc
 slice_get_none (x ∷ xs) (suc f) h = (let e = slice_get_none xs f h in omega arith)
 
--- ---- the same runners, of which some were stopped or begun
+-- ---- the same running spells, of which some were stopped or begun
 
 kept_one : (r : RunningSpell) → IsKeptFrom r r
 kept_one r = record { room_same = refl; trace = refl; pieces = λ on. inr (on, refl) }
@@ -143,8 +144,8 @@ pub begun_one : (old a : RunningSpell) → count_of a.running ≡ 0 → room_of 
     a.trace ≡ old.trace → IsKeptFrom old a
 begun_one old a none same trace = record { room_same = same; trace = trace; pieces = λ on. inl none }
 
-pub kept_none : (runners : List RunningSpell) → AreKept runners runners
-kept_none runners = record { count_same = refl; each = λ f r is. (r, is, kept_one r) }
+pub kept_none : (spells : List RunningSpell) → AreKept spells spells
+kept_none spells = record { count_same = refl; each = λ f r is. (r, is, kept_one r) }
 
 pub kept_then : (a b d : List RunningSpell) → AreKept a b → AreKept b d → AreKept a d
 kept_then a b d early late = record {
@@ -168,21 +169,21 @@ kept_then a b d early late = record {
       );
 }
 
-pub kept_written : (runners runners' : List RunningSpell) (i : ℕ) (a old : RunningSpell) → i < length runners →
-    runners' ≡ slice_set runners i a → slice_get runners i ≡ Some old → IsKeptFrom old a →
-    AreKept runners runners'
-kept_written runners runners' i a old low set was kept = record {
-  count_same = ap (λ (xs : List RunningSpell). length xs) set ∙ length-set runners i a;
+pub kept_written : (spells spells' : List RunningSpell) (i : ℕ) (a old : RunningSpell) → i < length spells →
+    spells' ≡ slice_set spells i a → slice_get spells i ≡ Some old → IsKeptFrom old a →
+    AreKept spells spells'
+kept_written spells spells' i a old low set was kept = record {
+  count_same = ap (λ (xs : List RunningSpell). length xs) set ∙ length-set spells i a;
   each = λ f r is. elim (cases_eq f i) [
     | inl z ↦
-        let e = ap (λ (k : ℕ). slice_get runners' k) z in
-        let w = written_here runners runners' i a low set in
+        let e = ap (λ (k : ℕ). slice_get spells' k) z in
+        let w = written_here spells spells' i a low set in
         let same : a ≡ r = (cc) in (
           old,
           cc,
           rw same at kept,
         )
-    | inr other ↦ (r, sym (written_other runners runners' i a low set f other) ∙ is, kept_one r)
+    | inr other ↦ (r, sym (written_other spells spells' i a low set f other) ∙ is, kept_one r)
   ];
 }
 
@@ -232,14 +233,14 @@ module _ (old new : List RunningSpell) (kept : AreKept old new) where
       (let k = kept.each f r is in subst (IsTrace log) (sym k.2.trace) (traces f k.0 k.1))
 
 -- nothing is left yet
-pub none_trails : (log : List Logged) (runners : List RunningSpell) →
-    ((f : ℕ) (r : RunningSpell) → slice_get runners f ≡ Some r → r.trace.count ≡ 0) → AreTraces log runners
-none_trails log runners none f r is = subst (AreLogged log r.trace.last) (sym (none f r is)) tt
+pub none_trails : (log : List Logged) (spells : List RunningSpell) →
+    ((f : ℕ) (r : RunningSpell) → slice_get spells f ≡ Some r → r.trace.count ≡ 0) → AreTraces log spells
+none_trails log spells none f r is = subst (AreLogged log r.trace.last) (sym (none f r is)) tt
 
 -- ---- rooms
 
-pub room_one : (runners : List RunningSpell) → HaveSameRooms runners runners
-room_one runners = record { count_same = refl; keeps = λ room have. have }
+pub room_one : (spells : List RunningSpell) → HaveSameRooms spells spells
+room_one spells = record { count_same = refl; keeps = λ room have. have }
 
 pub rooms_then : (a b d : List RunningSpell) → HaveSameRooms a b → HaveSameRooms b d → HaveSameRooms a d
 rooms_then a b d early late = record {
@@ -247,30 +248,30 @@ rooms_then a b d early late = record {
   keeps = λ room have. late.keeps room (early.keeps room have);
 }
 
-pub rooms_written : (runners runners' : List RunningSpell) (i : ℕ) (a old : RunningSpell) → i < length runners →
-    runners' ≡ slice_set runners i a → slice_get runners i ≡ Some old → a.running ≡ old.running →
-    HaveSameRooms runners runners'
-rooms_written runners runners' i a old low set was same = record {
-  count_same = ap (λ (xs : List RunningSpell). length xs) set ∙ length-set runners i a;
-  keeps = λ room have. each_written runners runners' i a low set (λ r. room ≡ room_of r.running)
+pub rooms_written : (spells spells' : List RunningSpell) (i : ℕ) (a old : RunningSpell) → i < length spells →
+    spells' ≡ slice_set spells i a → slice_get spells i ≡ Some old → a.running ≡ old.running →
+    HaveSameRooms spells spells'
+rooms_written spells spells' i a old low set was same = record {
+  count_same = ap (λ (xs : List RunningSpell). length xs) set ∙ length-set spells i a;
+  keeps = λ room have. each_written spells spells' i a low set (λ r. room ≡ room_of r.running)
       (have i old was ∙ sym (ap room_of same)) have;
 }
 
 -- where none is on, the room of each is all its own
-pub off_roomy : (room periods t charge : ℕ) (runners : List RunningSpell) →
-    ((f : ℕ) → live_at runners f ≡ None) →
-    ((f : ℕ) (r : RunningSpell) → slice_get runners f ≡ Some r → r.trace.count ≡ 0) →
-    periods * charge ≤ room → HaveRoom room runners → AreRoomy periods t charge runners
-off_roomy room periods t charge runners off none fits have f r is = record {
+pub off_roomy : (room periods t charge : ℕ) (spells : List RunningSpell) →
+    ((f : ℕ) → live_at spells f ≡ None) →
+    ((f : ℕ) (r : RunningSpell) → slice_get spells f ≡ Some r → r.trace.count ≡ 0) →
+    periods * charge ≤ room → HaveRoom room spells → AreRoomy periods t charge spells
+off_roomy room periods t charge spells off none fits have f r is = record {
   whole = (let same = have f r is in omega arith);
   rest = λ on. (let none = off f in let live = ap going_of is ∙ going_on r on in absurd (cc));
   count = λ on. (let none = off f in let live = ap going_of is ∙ going_on r on in absurd (cc));
   none = λ early. none f r is;
 }
 
-pub still_roomy : (periods t u charge : ℕ) (runners : List RunningSpell) → t ≤ u →
-    ((f : ℕ) → live_at runners f ≡ None) → AreRoomy periods t charge runners → AreRoomy periods u charge runners
-still_roomy periods t u charge runners later off roomy f r is = record {
+pub still_roomy : (periods t u charge : ℕ) (spells : List RunningSpell) → t ≤ u →
+    ((f : ℕ) → live_at spells f ≡ None) → AreRoomy periods t charge spells → AreRoomy periods u charge spells
+still_roomy periods t u charge spells later off roomy f r is = record {
   whole = (roomy f r is).whole;
   rest = λ on. (let none = off f in let live = ap going_of is ∙ going_on r on in absurd (cc));
   count = λ on. (let none = off f in let live = ap going_of is ∙ going_on r on in absurd (cc));
@@ -311,9 +312,9 @@ fewer_but live live' i off others f = elim (cases_eq f i) [
 ]
 
 -- those before n are off, and the list ends there
-pub all_off : (runners : List RunningSpell) (n : ℕ) → ((f : ℕ) → f < n → live_at runners f ≡ None) →
-    length runners ≤ n → (f : ℕ) → live_at runners f ≡ None
-all_off runners n off end f = elim (cases_lt f n) [
+pub all_off : (spells : List RunningSpell) (n : ℕ) → ((f : ℕ) → f < n → live_at spells f ≡ None) →
+    length spells ≤ n → (f : ℕ) → live_at spells f ≡ None
+all_off spells n off end f = elim (cases_lt f n) [
   | inl less ↦ off f less
-  | inr from ↦ ap going_of (slice_get_past runners f (omega arith))
+  | inr from ↦ ap going_of (slice_get_past spells f (omega arith))
 ]

@@ -1,12 +1,12 @@
--- A period of the table, from its runners.
+-- A period of the table, from its running spells.
 use Rattle.unit_table.proofs.Common.{◌≡◌, ◌≢◌, ℕ, suc, ◌<◌, Option, Some, None, ℤ, List, length, refl, sym, arith}
 use Rattle.unit_table.proofs.Common.{MustOff, StartCostsAreWithin, ThermalUnit, PriceLists, IsThermalUnit, mark_in}
 use Rattle.unit_table.proofs.Common.{RunsMeetingAtPowerContinueAlike, DispatchesMeetingAtPowerContinueAlike}
 use Rattle.unit_table.proofs.Common.{DispatchesAreRuns, Ended, IsFilledTo, row_at, cost_at}
-use Rattle.unit_table.proofs.Common.{first_at, before_at, AreWithin, AreLimits, IsFilledWithin, Going, AreRunners}
+use Rattle.unit_table.proofs.Common.{first_at, before_at, AreWithin, AreLimits, IsFilledWithin, Going, AreRunningSpells}
 use Rattle.unit_table.proofs.Common.{IsRowOf, IsGoneOn}
 use Rattle.unit_table.proofs.LimitLaws.{table_whole}
-use Rattle.unit_table.proofs.RowByRowLaws.{runners_to, table_off, table_on}
+use Rattle.unit_table.proofs.RowByRowLaws.{spells_to, table_off, table_on}
 use Rattle.unit_table.proofs.RowLaws.{cost-same, first-same, before-same}
 use Rattle.unit_table.proofs.StandInLaws.{run_on}
 use Rattle.unit_table.proofs.StartLaws.{all_stop}
@@ -20,7 +20,7 @@ module _ (g : ThermalUnit) (π : PriceLists) (limits : ℕ →
     table = table_off g π limits unit t (cost_at rows) (cost_at rows) (first_at rows) (first_at rows) (before_at rows)
         (before_at rows) filled.table within
         (λ l other. refl) (λ l other. refl) (λ l other. refl) mark (filled.table.none (suc t) (omega arith));
-    runners = all_stop g π limits (cost_at rows) live' t off mark;
+    spells = all_stop g π limits (cost_at rows) live' t off mark;
     within = filled.within;
   }
 
@@ -28,18 +28,18 @@ module _ (g : ThermalUnit) (π : PriceLists) (limits : ℕ →
   no_row = filled.table.none (suc t) (omega arith)
 
   module _ (rows' : List (Option Ended)) (live₁ live₂ : ℕ →
-      Option Going) (now : AreRunners g π limits (cost_at rows) live₁ t (suc (suc t))) where
+      Option Going) (now : AreRunningSpells g π limits (cost_at rows) live₁ t (suc (suc t))) where
     pub period_run : (most : ℤ) → AreLimits g π most limits → RunsMeetingAtPowerContinueAlike →
         (mark_in g.window (suc t) ≡ MustOff → ⊥) →
         ((f : ℕ) (r : Going) → live₁ f ≡ Some r → IsGoneOn g π t f r (live₂ f)) →
         ((f : ℕ) → live₁ f ≡ None → live₂ f ≡ None) →
-        AreRunners g π limits (cost_at rows) live₂ (suc t) (suc (suc t))
+        AreRunningSpells g π limits (cost_at rows) live₂ (suc t) (suc (suc t))
     period_run most right go may goes only = run_on g π limits (cost_at rows) t live₁ live₂ most right go within now may
         goes only
 
     pub period_filled : (most : ℤ) → AreLimits g π most limits → DispatchesMeetingAtPowerContinueAlike →
         DispatchesAreRuns →
-        (live₃ : ℕ → Option Going) → AreRunners g π limits (cost_at rows) live₃ (suc t) (suc (suc t)) →
+        (live₃ : ℕ → Option Going) → AreRunningSpells g π limits (cost_at rows) live₃ (suc t) (suc (suc t)) →
         IsRowOf g π (length π.energy) live₁ (suc (suc t)) (suc t) (cost_at rows' (suc t)) (first_at rows' (suc t))
         (before_at rows' (suc t)) →
         ((l : ℕ) → l ≢ suc t → row_at rows' l ≡ row_at rows l) → AreWithin rows' →
@@ -50,7 +50,7 @@ module _ (g : ThermalUnit) (π : PriceLists) (limits : ℕ →
           (λ l other. cost-same rows' rows l l (others l other)) (λ l other. first-same rows' rows l l (others l other))
           (λ l other. before-same rows' rows l l (others l other))
           most right go are_runs live₁ now row;
-      runners = runners_to g π limits (cost_at rows) (cost_at rows') live₃ (suc t) (suc (suc t))
+      spells = spells_to g π limits (cost_at rows) (cost_at rows') live₃ (suc t) (suc (suc t))
           (λ l low. sym (cost-same rows' rows l l (others l (λ z. omega arith)))) pruned;
       within = bound;
     }

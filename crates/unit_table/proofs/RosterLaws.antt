@@ -1,4 +1,4 @@
--- The list of the runners that are on: one more, some fewer, and a loop over it.
+-- The list of the running spells that are on: one more, some fewer, and a loop over it.
 use Rattle.unit_table.proofs.Common.{◌≡◌, ◌≢◌, ℕ, suc, ◌+◌, ◌<◌, ◌≤◌, ◌⊎◌, inl, inr, Option, Some, None, ℤ, List}
 use Rattle.unit_table.proofs.Common.{length, refl, sym, ap, ◌∙◌, subst, arith, slice_get, slice_set}
 use Rattle.unit_table.proofs.Common.{cases_lt, cases_eq, ThermalUnit, PriceLists, RunningSpell, Ended, going_of}
@@ -21,7 +21,7 @@ none_listed live until roster none off = record {
   all = λ f r is. (let o = off f in cc);
 }
 
--- where no other runner is on
+-- where no other running spell is on
 pub still_listed : (live live' : ℕ → Option Going) (until until' : ℕ) (roster : Roster) → until ≤ until' →
     ((f : ℕ) → live f ≡ None → live' f ≡ None) → IsRoster live until roster → IsRoster live' until' roster
 still_listed live live' until until' roster more off list = record {
@@ -75,7 +75,7 @@ module _ (live live' : ℕ → Option Going) (until : ℕ) (roster roster' : Ros
     ];
   }
 
--- ---- those kept whose runners are on
+-- ---- those kept whose running spells are on
 
 module _ (live : ℕ → Option Going) (until : ℕ) (old : Roster) where
   -- of the first p entries the first q of the new list are left; after them it is as it was
@@ -110,7 +110,7 @@ module _ (live : ℕ → Option Going) (until : ℕ) (old : Roster) (list : IsRo
     pub first_inside : first < until
     first_inside = list.below p first inside was
 
-    -- its runner is off
+    -- its running spell is off
     pub one_off : live first ≡ None → IsKeptTo live until old (p + 1) q new
     one_off off = record {
       low = omega arith;
@@ -205,7 +205,7 @@ module _ (live : ℕ → Option Going) (until : ℕ) (old : Roster) (list : IsRo
 
 -- ---- a loop over it
 
--- runners that are off change no row
+-- running spells that are off change no row
 row_further : (g : ThermalUnit) (π : PriceLists) (periods : ℕ) (live : ℕ →
     Option Going) (n m l : ℕ) (end : Option ℤ) (first before : ℕ) → n ≤ m → ((f : ℕ) → n ≤ f → f < m → live f ≡ None) →
     IsRowOf g π periods live n l end first before → IsRowOf g π periods live m l end first before
@@ -221,21 +221,21 @@ row_further g π periods live n m l end first before more off row = record {
   sound = λ v is. (let h = row.sound v is in let low = h.2 in (h.0, h.1, omega arith, h.3, h.4, h.5));
 }
 
-module _ (a : Asked) (rows₀ : List (Option Ended)) (runners₀ : List RunningSpell)
+module _ (a : Asked) (rows₀ : List (Option Ended)) (spells₀ : List RunningSpell)
     (log₀ : Reserved Logged)
   where
     -- the first i of the list have run
     pub record IsListRun (roster : Roster) (bound i : ℕ) (rows : List (Option Ended))
-        (runners : List RunningSpell) (log : Reserved Logged) : Type 0
+        (spells : List RunningSpell) (log : Reserved Logged) : Type 0
       where
         pub until : ℕ
         pub most : until ≤ bound
-        pub run : IsRunTo a rows₀ runners₀ log₀ until rows runners log
+        pub run : IsRunTo a rows₀ spells₀ log₀ until rows spells log
         pub done : (j f : ℕ) → j < i → slice_get roster.firsts.items j ≡ Some f → f < until
         pub left : (j f : ℕ) → i ≤ j → j < roster.count → slice_get roster.firsts.items j ≡ Some f → until ≤ f
 
-    pub none_run : (roster : Roster) (bound : ℕ) → IsRunTo a rows₀ runners₀ log₀ 0 rows₀
-        runners₀ log₀ → IsListRun roster bound 0 rows₀ runners₀ log₀
+    pub none_run : (roster : Roster) (bound : ℕ) → IsRunTo a rows₀ spells₀ log₀ 0 rows₀
+        spells₀ log₀ → IsListRun roster bound 0 rows₀ spells₀ log₀
     none_run roster bound run = record {
       until = 0;
       most = omega arith;
@@ -244,13 +244,13 @@ module _ (a : Asked) (rows₀ : List (Option Ended)) (runners₀ : List RunningS
       left = λ j f from low is. omega arith;
     }
 
-    module _ (roomy₀ : AreRoomy (periods_of a) a.index a.charge runners₀) where
-      run_skip : (n m : ℕ) (rows : List (Option Ended)) (runners : List RunningSpell) (log : Reserved Logged) → n ≤ m →
-          ((f : ℕ) → n ≤ f → f < m → live_at runners₀ f ≡ None) →
-          IsRunTo a rows₀ runners₀ log₀ n rows runners log →
-          IsRunTo a rows₀ runners₀ log₀ m rows runners log
-      run_skip n m rows runners log more none run = record {
-        row = row_further a.unit a.prices (periods_of a) (live_at runners₀) n m (suc a.index) _ _ _ more none run.row;
+    module _ (roomy₀ : AreRoomy (periods_of a) a.index a.charge spells₀) where
+      run_skip : (n m : ℕ) (rows : List (Option Ended)) (spells : List RunningSpell) (log : Reserved Logged) → n ≤ m →
+          ((f : ℕ) → n ≤ f → f < m → live_at spells₀ f ≡ None) →
+          IsRunTo a rows₀ spells₀ log₀ n rows spells log →
+          IsRunTo a rows₀ spells₀ log₀ m rows spells log
+      run_skip n m rows spells log more none run = record {
+        row = row_further a.unit a.prices (periods_of a) (live_at spells₀) n m (suc a.index) _ _ _ more none run.row;
         others = run.others;
         within = run.within;
         rows_length = run.rows_length;
@@ -266,7 +266,7 @@ module _ (a : Asked) (rows₀ : List (Option Ended)) (runners₀ : List RunningS
         roomy = λ f r low is. elim (cases_lt f n) [
           | inl less ↦ run.roomy f r less is
           | inr from ↦
-              let before : slice_get runners₀ f ≡ Some r = sym (run.rest f from) ∙ is in
+              let before : slice_get spells₀ f ≡ Some r = sym (run.rest f from) ∙ is in
               record {
                 whole = (roomy₀ f r before).whole;
                 rest = λ on. (let off = none f from low in let live = ap going_of before ∙
@@ -289,12 +289,12 @@ module _ (a : Asked) (rows₀ : List (Option Ended)) (runners₀ : List RunningS
         count_same = run.count_same;
       }
 
-      module _ (roster : Roster) (bound : ℕ) (list : IsRoster (live_at runners₀) bound roster) where
-        module _ (i : ℕ) (rows : List (Option Ended)) (runners : List RunningSpell) (log : Reserved Logged)
-            (so_far : IsListRun roster bound i rows runners log) (inside : i < roster.count) (first : ℕ)
+      module _ (roster : Roster) (bound : ℕ) (list : IsRoster (live_at spells₀) bound roster) where
+        module _ (i : ℕ) (rows : List (Option Ended)) (spells : List RunningSpell) (log : Reserved Logged)
+            (so_far : IsListRun roster bound i rows spells log) (inside : i < roster.count) (first : ℕ)
             (is : slice_get roster.firsts.items i ≡ Some first) where
-          off_between : (f : ℕ) → so_far.until ≤ f → f < first → live_at runners₀ f ≡ None
-          off_between f from low = elim (live_at runners₀ f) as (λ o. live_at runners₀ f ≡ o →
+          off_between : (f : ℕ) → so_far.until ≤ f → f < first → live_at spells₀ f ≡ None
+          off_between f from low = elim (live_at spells₀ f) as (λ o. live_at spells₀ f ≡ o →
               o ≡ None) [
                 | None ↦ λ e. refl
                 | Some r ↦ λ on.
@@ -312,18 +312,18 @@ module _ (a : Asked) (rows₀ : List (Option Ended)) (runners₀ : List RunningS
                     absurd contradiction
               ] refl
 
-          pub run_before : IsRunTo a rows₀ runners₀ log₀ first rows runners log
-          run_before = run_skip so_far.until first rows runners log
+          pub run_before : IsRunTo a rows₀ spells₀ log₀ first rows spells log
+          run_before = run_skip so_far.until first rows spells log
               (so_far.left i first (omega arith) inside is) off_between
               so_far.run
 
-          pub one_run : (rows' : List (Option Ended)) (runners' : List RunningSpell) (log' : Reserved Logged) →
-              IsOneRun a first rows rows' runners runners' log log' →
-              IsListRun roster bound (i + 1) rows' runners' log'
-          one_run rows' runners' log' one = record {
+          pub one_run : (rows' : List (Option Ended)) (spells' : List RunningSpell) (log' : Reserved Logged) →
+              IsOneRun a first rows rows' spells spells' log log' →
+              IsListRun roster bound (i + 1) rows' spells' log'
+          one_run rows' spells' log' one = record {
             until = first + 1;
             most = (let below = list.below i first inside is in omega arith);
-            run = run_more a rows₀ runners₀ log₀ first rows rows' runners runners' log log' run_before
+            run = run_more a rows₀ spells₀ log₀ first rows rows' spells spells' log log' run_before
                 one;
             done = λ j f low there. elim (cases_eq j i) [
               | inl z ↦ (let e = ap (slice_get roster.firsts.items) z in let same : f ≡ first = (cc) in omega arith)
@@ -333,14 +333,14 @@ module _ (a : Asked) (rows₀ : List (Option Ended)) (runners₀ : List RunningS
                 (let later = list.rising i j first f (omega arith) low is there in omega arith);
           }
 
-        module _ (i : ℕ) (rows : List (Option Ended)) (runners : List RunningSpell) (log : Reserved Logged)
-            (all : IsListRun roster bound i rows runners log) (end : roster.count ≤ i) where
-          pub none_later : (f : ℕ) (r : Going) → live_at runners₀ f ≡ Some r → f < all.until
+        module _ (i : ℕ) (rows : List (Option Ended)) (spells : List RunningSpell) (log : Reserved Logged)
+            (all : IsListRun roster bound i rows spells log) (end : roster.count ≤ i) where
+          pub none_later : (f : ℕ) (r : Going) → live_at spells₀ f ≡ Some r → f < all.until
           none_later f r on = (let h = list.all f r on in all.done h.0 f (omega arith) h.2)
 
-          pub run_whole : IsRunTo a rows₀ runners₀ log₀ bound rows runners log
-          run_whole = run_skip all.until bound rows runners log all.most
-              (λ f from low. elim (live_at runners₀ f) as (λ o. live_at runners₀ f ≡ o → o ≡ None) [
+          pub run_whole : IsRunTo a rows₀ spells₀ log₀ bound rows spells log
+          run_whole = run_skip all.until bound rows spells log all.most
+              (λ f from low. elim (live_at spells₀ f) as (λ o. live_at spells₀ f ≡ o → o ≡ None) [
                 | None ↦ λ e. refl
                 | Some r ↦ λ on. (let before = none_later f r on in absurd (omega arith))
               ] refl) all.run

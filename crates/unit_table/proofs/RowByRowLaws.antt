@@ -6,7 +6,7 @@ use Rattle.unit_table.proofs.Common.{IsThermalUnit, mark_in, DispatchesMeetingAt
 use Rattle.unit_table.proofs.Common.{IsDispatch, net_cost}
 use Rattle.unit_table.proofs.Common.{spell_cost, Ended, row_at, cost_at, first_at, before_at, IsFirstRow, AreLimits}
 use Rattle.unit_table.proofs.Common.{IsSpell, StopsAtOnce, HasAtMost, IsEntry, IsLeastEntry, IsEnded, IsLatest, Going}
-use Rattle.unit_table.proofs.Common.{MayBeOn, AreRunners, IsTableTo, IsRowOf}
+use Rattle.unit_table.proofs.Common.{MayBeOn, AreRunningSpells, IsTableTo, IsRowOf}
 use Rattle.unit_table.specs.Tables.{IsFrom}
 use Rattle.unit_table.proofs.BeginLaws.{at_most_more, entry_same, at_once_some, at_once_none}
 use Rattle.unit_table.proofs.RangeLaws.{dispatch_in_range, before_low}
@@ -30,10 +30,10 @@ module _ (g : ThermalUnit) (a b : ℕ → Option ℤ) (f : ℕ) (same : (l : ℕ
     earliest = λ k entry. h.earliest k (entry_same g b a f k e back entry);
   }
 
-pub runners_to : (g : ThermalUnit) (π : PriceLists) (limits : ℕ → ℤ) (a b : ℕ → Option ℤ) (live : ℕ →
-    Option Going) (t n : ℕ) → ((l : ℕ) → suc l < n → a l ≡ b l) → AreRunners g π limits a live t n →
-    AreRunners g π limits b live t n
-runners_to g π limits a b live t n same now = record {
+pub spells_to : (g : ThermalUnit) (π : PriceLists) (limits : ℕ → ℤ) (a b : ℕ → Option ℤ) (live : ℕ →
+    Option Going) (t n : ℕ) → ((l : ℕ) → suc l < n → a l ≡ b l) → AreRunningSpells g π limits a live t n →
+    AreRunningSpells g π limits b live t n
+spells_to g π limits a b live t n same now = record {
   right = λ f r is.
       let h = now.right f r is in
       let low = h.0 in
@@ -130,9 +130,9 @@ module _ (g : ThermalUnit) (π : PriceLists) (limits : ℕ → ℤ) (unit : IsTh
 
   module _ (most : ℤ) (limits_right : AreLimits g π most limits) (go : DispatchesMeetingAtPowerContinueAlike)
       (are_runs : DispatchesAreRuns)
-      (live : ℕ → Option Going) (now : AreRunners g π limits ends live t (suc (suc t)))
+      (live : ℕ → Option Going) (now : AreRunningSpells g π limits ends live t (suc (suc t)))
       (row : IsRowOf g π T live (suc (suc t)) (suc t) (ends' (suc t)) (firsts' (suc t)) (lasts' (suc t))) where
-    -- a dispatch of a runner that is as cheap
+    -- a dispatch of a running spell that is as cheap
     record IsReplaced (f : ℕ) (e : ℤ) (d : Schedule) : Type 0 where
       pub other : ℕ
       pub going : Going
@@ -157,14 +157,14 @@ module _ (g : ThermalUnit) (π : PriceLists) (limits : ℕ → ℤ) (unit : IsTh
         let s = now.all f e d (omega arith) may entry (λ k from until. run k from (omega arith))
         (before_low e (spell_cost g π f t d) (spell_cost g π f (suc t) d) (net_cost g π d (suc t)) (limits t)
         (limits (suc t)) more last under) in
-        let runner = now.right s.other s.going s.on in
-        let low = runner.0 in
+        let running_spell = now.right s.other s.going s.on in
+        let low = running_spell.0 in
         let other_spell : s.other ≤ suc t → IsSpell g T s.other (suc t) = λ below. record {
           order = below;
           end = spell.end;
-          goes_on = runner.1.may.goes_on;
+          goes_on = running_spell.1.may.goes_on;
           marks = λ k one from until mark. elim (cases_lt k (suc t)) [
-            | inl less ↦ runner.1.may.marks k one from (omega arith) mark
+            | inl less ↦ running_spell.1.may.marks k one from (omega arith) mark
             | inr most ↦ let z : k ≡ suc t = omega arith in spell.marks k one (omega arith)
                 until mark
           ];
@@ -172,7 +172,8 @@ module _ (g : ThermalUnit) (π : PriceLists) (limits : ℕ → ℤ) (unit : IsTh
         } in
         elim (s.begun) [
           | inl begun ↦
-              let j = go g π f s.other t s.going.function d s.value unit order begun within runner.1.frontier s.there
+              let j = go g π f s.other t s.going.function d s.value unit order begun within
+                  running_spell.1.frontier s.there
               dispatch in
               record {
                 other = s.other;
@@ -189,7 +190,7 @@ module _ (g : ThermalUnit) (π : PriceLists) (limits : ℕ → ℤ) (unit : IsTh
                 ];
               }
           | inr same ↦
-              let bound = runner.1.entry.least e (rw same entry) in
+              let bound = running_spell.1.entry.least e (rw same entry) in
               let cost = ap (λ (f : ℕ). spell_cost g π f (suc t) d) same in
               record {
                 other = s.other;
@@ -233,12 +234,12 @@ module _ (g : ThermalUnit) (π : PriceLists) (limits : ℕ → ℤ) (unit : IsTh
     sound_here v is under =
         let h = row.sound v is in
         let r = h.0 in
-        let runner = (now.right (firsts' (suc t)) r h.1).1 in
+        let running_spell = (now.right (firsts' (suc t)) r h.1).1 in
         let order = h.4.order in
         let ended : IsEnded g π T ends' (firsts' (suc t)) r.before (suc t) v = record {
           entry_cost = r.cost;
           entry = least_entry_to g ends ends' (firsts' (suc t)) (newer (firsts' (suc t)) order) r.before r.cost
-              runner.entry;
+              running_spell.entry;
           spell = h.4;
           net = h.5.0;
           least = h.5.1;

@@ -1,10 +1,12 @@
--- A runner that stands for a run goes on standing for it: a period more, a start that isn't begun, a runner that goes.
+-- A running spell that stands for a run goes on standing for it: a period more, a start that isn't begun, a spell
+-- that goes.
 use Rattle.unit_table.proofs.Common.{◌≡◌, ◌≢◌, ℕ, zero, suc, ◌<◌, ◌≤◌, ◌==◌, false, inl, inr, Option, Some, None, ℤ}
 use Rattle.unit_table.proofs.Common.{pos, ◌+ℤ◌, ◌≤ℤ◌, length, refl, sym, ap, ◌∙◌, subst, arith, ints, cases_lt}
 use Rattle.unit_table.proofs.Common.{cases_eq, lt-ltb, Table, value_of, MustOff, ThermalUnit, PriceLists, Schedule}
 use Rattle.unit_table.proofs.Common.{mark_in, IsFrontier, RunsMeetingAtPowerContinueAlike, net_cost, spell_cost, level}
 use Rattle.unit_table.proofs.Common.{IsRun, AreLimits}
-use Rattle.unit_table.proofs.Common.{on_time, IsEntry, IsLeastEntry, Going, MayBeOn, IsRunner, HasStandIn, AreRunners}
+use Rattle.unit_table.proofs.Common.{on_time, IsEntry, IsLeastEntry, Going, MayBeOn, IsRunningSpell}
+use Rattle.unit_table.proofs.Common.{HasStandIn, AreRunningSpells}
 use Rattle.unit_table.proofs.Common.{IsGoneOn}
 use Rattle.unit_table.proofs.RangeLaws.{move_in_range, before_low}
 use Rattle.unit_table.proofs.SumLaws.{sum_from_to-more, sum_from_to-none}
@@ -50,7 +52,7 @@ one_more_cost g π first t d from = sum_from_to-more (net_cost g π d) first t f
 run_less : (g : ThermalUnit) (first t : ℕ) (d : Schedule) → IsRun g first (suc t) d → IsRun g first t d
 run_less g first t d run k from until = run k from (omega arith)
 
--- where the runner that stands for it is the same one
+-- where the running spell that stands for it is the same one
 still_stands : {g : ThermalUnit} {π : PriceLists} {live live' : ℕ → Option Going} {t f : ℕ} {e : ℤ} {d : Schedule} →
     (s : HasStandIn g π live t f e d) → live' s.other ≡ Some s.going → HasStandIn g π live' t f e d
 still_stands s on = record {
@@ -69,10 +71,10 @@ module _ (g : ThermalUnit) (π : PriceLists) (limits : ℕ → ℤ) (ends : ℕ 
     Option Going) where
   -- ---- a start in period suc t
 
-  module _ (now : AreRunners g π limits ends live t (suc t)) where
+  module _ (now : AreRunningSpells g π limits ends live t (suc t)) where
     -- something stands for each run of one period
     stood_for : ((e : ℤ) (d : Schedule) → IsEntry g ends (suc t) e → (e +ℤ spell_cost g π (suc t) t d) ≤ℤ limits t →
-        HasStandIn g π live t (suc t) e d) → AreRunners g π limits ends live t (suc (suc t))
+        HasStandIn g π live t (suc t) e d) → AreRunningSpells g π limits ends live t (suc (suc t))
     stood_for new = record {
       right = λ f r is. (let h = now.right f r is in let low = h.0 in (omega arith, h.1));
       all = λ f e d low may entry run under. elim (cases_lt f (suc t)) [
@@ -85,13 +87,13 @@ module _ (g : ThermalUnit) (π : PriceLists) (limits : ℕ → ℤ) (ends : ℕ 
     }
 
     -- no spell may begin there
-    pub none_starts : ((e : ℤ) → IsEntry g ends (suc t) e → ⊥) → AreRunners g π limits ends live t (suc (suc t))
+    pub none_starts : ((e : ℤ) → IsEntry g ends (suc t) e → ⊥) → AreRunningSpells g π limits ends live t (suc (suc t))
     none_starts none = stood_for (λ e d entry under. absurd (none e entry))
 
-    -- a runner at the least power costs less than the least entry
+    -- a running spell at the least power costs less than the least entry
     pub start_undercut : (last : ℕ) (e : ℤ) → IsLeastEntry g ends (suc t) last e → (other : ℕ) (r : Going) (v : ℤ) →
         live other ≡ Some r → value_of r.function g.min_power ≡ Some v →
-        ((r.cost +ℤ v) +ℤ pos 1) ≤ℤ e → AreRunners g π limits ends live t (suc (suc t))
+        ((r.cost +ℤ v) +ℤ pos 1) ≤ℤ e → AreRunningSpells g π limits ends live t (suc (suc t))
     start_undercut last e least other r v on there cheap = stood_for (λ e' d entry under.
         (let bound = least.least e' entry in
         let begun = (now.right other r on).0 in
@@ -108,15 +110,15 @@ module _ (g : ThermalUnit) (π : PriceLists) (limits : ℕ → ℤ) (ends : ℕ 
           begun = inl (omega arith);
         }))
 
-    -- or its own runner begins
+    -- or its own running spell begins
     pub start_begun : (r : Going) → live' (suc t) ≡ Some r → ((f : ℕ) → f ≢ suc t → live' f ≡ live f) →
-        IsRunner g π ends t (suc t) r → AreRunners g π limits ends live' t (suc (suc t))
-    start_begun r begins same runner = record {
+        IsRunningSpell g π ends t (suc t) r → AreRunningSpells g π limits ends live' t (suc (suc t))
+    start_begun r begins same running_spell = record {
       right = λ f x is. elim (cases_eq f (suc t)) [
         | inl z ↦
             let here : r ≡ x = (let a = ap live' z in cc) in (
               omega arith,
-              rw here at (subst (λ (f : ℕ). IsRunner g π ends t f r) (sym z) runner),
+              rw here at (subst (λ (f : ℕ). IsRunningSpell g π ends t f r) (sym z) running_spell),
             )
         | inr other ↦ (let h = now.right f x (sym (same f other) ∙ is) in let low = h.0 in (omega arith, h.1))
       ];
@@ -129,8 +131,8 @@ module _ (g : ThermalUnit) (π : PriceLists) (limits : ℕ → ℤ) (ends : ℕ 
             let z : suc t ≡ f = omega arith in
             subst (λ (f : ℕ). IsEntry g ends f e' → HasStandIn g π live' t f e' d) z
             (λ entry. (
-            let bound = runner.entry.least e' entry in
-            let v = runner.frontier.complete d (λ k from until. absurd (omega arith)) in
+            let bound = running_spell.entry.least e' entry in
+            let v = running_spell.frontier.complete d (λ k from until. absurd (omega arith)) in
             record {
               other = suc t;
               going = r;
@@ -147,7 +149,7 @@ module _ (g : ThermalUnit) (π : PriceLists) (limits : ℕ → ℤ) (ends : ℕ 
 
     -- or each entry is above the limit
     pub starts_beyond : ((e : ℤ) → IsEntry g ends (suc t) e → (limits t +ℤ pos 1) ≤ℤ e) →
-        AreRunners g π limits ends live t (suc (suc t))
+        AreRunningSpells g π limits ends live t (suc (suc t))
     starts_beyond beyond = stood_for (λ e d entry under.
         (let above = beyond e entry in
         let nothing : spell_cost g π (suc t) t d ≡ pos 0 = sum_from_to-none (net_cost g π d) t in
@@ -155,17 +157,18 @@ module _ (g : ThermalUnit) (π : PriceLists) (limits : ℕ → ℤ) (ends : ℕ 
 
     -- as they are where the least one is
     pub start_beyond : (last : ℕ) (e : ℤ) → IsLeastEntry g ends (suc t) last e → (limits t +ℤ pos 1) ≤ℤ e →
-        AreRunners g π limits ends live t (suc (suc t))
+        AreRunningSpells g π limits ends live t (suc (suc t))
     start_beyond last e least beyond = starts_beyond
         (λ e' entry. (let bound = least.least e' entry in omega (arith, ints)))
 
-  -- ---- a runner goes
+  -- ---- a running spell goes
 
   -- all that it stands for is above the limit
-  module _ (n gone_first : ℕ) (a : Going) (now : AreRunners g π limits ends live t n) (on : live gone_first ≡ Some a)
+  module _ (n gone_first : ℕ) (a : Going) (now : AreRunningSpells g π limits ends live t n)
+      (on : live gone_first ≡ Some a)
       (beyond : (x v : ℤ) → value_of a.function x ≡ Some v → (limits t +ℤ pos 1) ≤ℤ (a.cost +ℤ v))
       (gone : live' gone_first ≡ None) (same : (f : ℕ) → f ≢ gone_first → live' f ≡ live f) where
-    pub beyond_goes : AreRunners g π limits ends live' t n
+    pub beyond_goes : AreRunningSpells g π limits ends live' t n
     beyond_goes = record {
       right = λ f x is. elim (cases_eq f gone_first) [
         | inl z ↦ (let none = ap live' z in cc)
@@ -185,13 +188,13 @@ module _ (g : ThermalUnit) (π : PriceLists) (limits : ℕ → ℤ) (ends : ℕ 
     }
 
   -- a later one stands for all that an earlier one stands for
-  module _ (n early late : ℕ) (a b : Going) (now : AreRunners g π limits ends live t n)
+  module _ (n early late : ℕ) (a b : Going) (now : AreRunningSpells g π limits ends live t n)
       (on_early : live early ≡ Some a) (on_late : live late ≡ Some b) (order : early < late) (begun : late ≤ t)
       (long : g.min_up ≤ on_time g late (suc t))
       (below : (x v : ℤ) → value_of a.function x ≡ Some v →
       (u : ℤ) × (value_of b.function x ≡ Some u) × ((b.cost +ℤ u) ≤ℤ (a.cost +ℤ v)))
       (gone : live' early ≡ None) (same : (f : ℕ) → f ≢ early → live' f ≡ live f) where
-    pub early_goes : AreRunners g π limits ends live' t n
+    pub early_goes : AreRunningSpells g π limits ends live' t n
     early_goes = record {
       right = λ f x is. elim (cases_eq f early) [
         | inl z ↦ (let none = ap live' z in cc)
@@ -228,11 +231,11 @@ module _ (g : ThermalUnit) (π : PriceLists) (limits : ℕ → ℤ) (ends : ℕ 
 
   module _ (most : ℤ) (limits_right : AreLimits g π most limits) (go : RunsMeetingAtPowerContinueAlike)
       (within : t < length π.energy)
-      (now : AreRunners g π limits ends live t (suc (suc t))) (open_next : mark_in g.window (suc t) ≡ MustOff → ⊥)
+      (now : AreRunningSpells g π limits ends live t (suc (suc t))) (open_next : mark_in g.window (suc t) ≡ MustOff → ⊥)
       (goes : (f : ℕ) (r : Going) → live f ≡ Some r → IsGoneOn g π t f r (live' f))
       (only : (f : ℕ) → live f ≡ None → live' f ≡ None) where
-    right_more : (f : ℕ) (x : Going) → live' f ≡ Some x → (f < suc (suc t)) × IsRunner g π ends (suc t) f x
-    right_more f x is = elim (live f) as (λ o. live f ≡ o → (f < suc (suc t)) × IsRunner g π ends (suc t) f x) [
+    right_more : (f : ℕ) (x : Going) → live' f ≡ Some x → (f < suc (suc t)) × IsRunningSpell g π ends (suc t) f x
+    right_more f x is = elim (live f) as (λ o. live f ≡ o → (f < suc (suc t)) × IsRunningSpell g π ends (suc t) f x) [
       | None ↦ λ off. (let none = only f off in cc)
       | Some r ↦ λ on.
           let old = now.right f r on in
@@ -243,14 +246,14 @@ module _ (g : ThermalUnit) (π : PriceLists) (limits : ℕ → ℤ) (ends : ℕ 
             | inl here ↦
                 let new : Going = record { before = r.before; cost = r.cost; function = h.function } in
                 let z : new ≡ x = (cc) in
-                let runner : IsRunner g π ends (suc t) f new = record {
+                let running_spell : IsRunningSpell g π ends (suc t) f new = record {
                   entry = old.1.entry;
                   frontier = h.frontier;
                   may = may_next g f t open_next old.1.may;
                   order = omega arith;
                   within = old.1.within;
                 } in
-                (low, rw z at runner)
+                (low, rw z at running_spell)
           ]
     ] refl
 
@@ -274,7 +277,7 @@ module _ (g : ThermalUnit) (π : PriceLists) (limits : ℕ → ℤ) (ends : ℕ 
           | inr gone ↦ (let none = gone.1 (level g f d (suc t)) in cc)
         ]
 
-    -- what is within the limit a period later has a runner that stands for it before
+    -- what is within the limit a period later has a running spell that stands for it before
     all_before : (f : ℕ) (e : ℤ) (d : Schedule) → f < suc (suc t) → MayBeOn g f (suc t) → IsEntry g ends f e →
         IsRun g f (suc t) d → (e +ℤ spell_cost g π f (suc t) d) ≤ℤ limits (suc t) → HasStandIn g π live t f e d
     all_before f e d low may entry run under =
@@ -334,5 +337,5 @@ module _ (g : ThermalUnit) (π : PriceLists) (limits : ℕ → ℤ) (ends : ℕ 
               }
         ]
 
-    pub run_on : AreRunners g π limits ends live' (suc t) (suc (suc t))
+    pub run_on : AreRunningSpells g π limits ends live' (suc t) (suc (suc t))
     run_on = record { right = right_more; all = all_more }

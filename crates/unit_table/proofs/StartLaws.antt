@@ -1,9 +1,9 @@
--- A runner begun, and none.
+-- A running spell begun, and none.
 use Rattle.unit_table.proofs.Common.{IsBegun, ◌≢◌}
 use Rattle.unit_table.proofs.Common.{◌≡◌, ℕ, suc, ◌+◌, ◌-◌, ◌*◌, inl, inr, Option, Some, None, ℤ, pos}
 use Rattle.unit_table.proofs.Common.{refl, sym, ap, ◌∙◌, subst, arith, IsTrue, IsFalse, ints}
 use Rattle.unit_table.proofs.Common.{cases_eq, MustOff, ThermalUnit, PriceLists, Schedule, mark_in, IsFrontier}
-use Rattle.unit_table.proofs.Common.{IsWithinTimes, Going, IsRunner, HasStandIn, AreRunners}
+use Rattle.unit_table.proofs.Common.{IsWithinTimes, Going, IsRunningSpell, HasStandIn, AreRunningSpells}
 use Rattle.unit_table.proofs.Common.{IsEntry, IsLeastEntry}
 use Rattle.unit_table.proofs.StandInLaws.{start_begun}
 
@@ -13,8 +13,8 @@ module _ (g : ThermalUnit) (π : PriceLists) (limits : ℕ → ℤ) (ends : ℕ 
     (live live' : ℕ → Option Going) (last : ℕ) (e : ℤ) (r : Going) (here : live' i ≡ Some r)
     (begun : IsBegun g i last e r) (others : (f : ℕ) → f ≢ i → live' f ≡ live f) (within : IsWithinTimes (2 * t + 3) e)
     (least : IsLeastEntry g ends (suc t) last e) where
-  begun_runner : IsRunner g π ends t (suc t) r
-  begun_runner =
+  begun_spell : IsRunningSpell g π ends t (suc t) r
+  begun_spell =
       let k : i - 1 ≡ t = omega arith in
       record {
         entry = rw begun.cost (subst (λ (b : ℕ). IsLeastEntry g ends (suc t) b e) (sym begun.before) least);
@@ -24,9 +24,9 @@ module _ (g : ThermalUnit) (π : PriceLists) (limits : ℕ → ℤ) (ends : ℕ 
         within = record { at_least = omega (arith, ints); at_most = omega (arith, ints) };
       }
 
-  pub started : AreRunners g π limits ends live t (suc t) → AreRunners g π limits ends live' t (suc (suc t))
+  pub started : AreRunningSpells g π limits ends live t (suc t) → AreRunningSpells g π limits ends live' t (suc (suc t))
   started now = start_begun g π limits ends t live live' now r (cc)
-      (λ f other. others f (λ y. other (y ∙ z))) begun_runner
+      (λ f other. others f (λ y. other (y ∙ z))) begun_spell
 
 -- ---- before the horizon
 
@@ -38,7 +38,7 @@ entry_zero g ends e entry = elim (entry.1) [
 
 module _ (g : ThermalUnit) (π : PriceLists) (limits : ℕ → ℤ) (ends : ℕ → Option ℤ) (live : ℕ → Option Going)
     (off : (f : ℕ) → live f ≡ None) where
-  pub none_goes_on : IsFalse g.on0 → AreRunners g π limits ends live 0 1
+  pub none_goes_on : IsFalse g.on0 → AreRunningSpells g π limits ends live 0 1
   none_goes_on off0 = record {
     right = λ f r is. (let none = off f in cc);
     all = λ f e d low may entry run under. (let on = may.goes_on (omega arith) in cc);
@@ -49,8 +49,8 @@ module _ (g : ThermalUnit) (π : PriceLists) (limits : ℕ → ℤ) (ends : ℕ 
     front : IsFrontier g π 0 0 r.function
     front = let k : 0 - 1 ≡ 0 = omega arith in subst (λ (u : ℕ). IsFrontier g π 0 u r.function) k (begun.frontier π)
 
-    runner : IsRunner g π ends 0 0 r
-    runner = record {
+    running_spell : IsRunningSpell g π ends 0 0 r
+    running_spell = record {
       entry = record {
         entry = inl (refl, begun.cost);
         least = λ d entry. (let z = entry_zero g ends d entry in omega (arith, ints));
@@ -78,13 +78,13 @@ module _ (g : ThermalUnit) (π : PriceLists) (limits : ℕ → ℤ) (ends : ℕ 
           begun = inl (omega arith);
         }
 
-    pub one_goes_on : AreRunners g π limits ends live' 0 1
+    pub one_goes_on : AreRunningSpells g π limits ends live' 0 1
     one_goes_on = record {
       right = λ f x is. elim (cases_eq f 0) [
         | inl z ↦
             let same : r ≡ x = (let k = ap live' z in cc) in (
               omega arith,
-              rw z (subst (λ (x : Going). IsRunner g π ends 0 0 x) same runner),
+              rw z (subst (λ (x : Going). IsRunningSpell g π ends 0 0 x) same running_spell),
             )
         | inr other ↦ (let none = others f other ∙ off f in cc)
       ];
@@ -97,7 +97,7 @@ module _ (g : ThermalUnit) (π : PriceLists) (limits : ℕ → ℤ) (ends : ℕ 
 
 pub all_stop : (g : ThermalUnit) (π : PriceLists) (limits : ℕ → ℤ) (ends : ℕ → Option ℤ) (live : ℕ →
     Option Going) (t : ℕ) → ((f : ℕ) → live f ≡ None) → mark_in g.window (suc t) ≡ MustOff →
-    AreRunners g π limits ends live (suc t) (suc (suc t))
+    AreRunningSpells g π limits ends live (suc t) (suc (suc t))
 all_stop g π limits ends live t off mark = record {
   right = λ f r is. (let none = off f in cc);
   all = λ f e d low may entry run under. absurd

@@ -3,6 +3,6 @@ pub mod Limits
 pub mod Live
 pub mod Questions
 pub mod Rosters
-pub mod Runners
+pub mod RunningSpells
 pub mod Tables
 pub mod Taken

@@ -1,9 +1,9 @@
--- A list of the runners that are on (this project's profile).
+-- A list of the running spells that are on (this project's profile).
 use Rattle.std.specs.Prelude.{◌≡◌, ℕ, ◌<◌, ◌≤◌, length, slice_get, Option, Some}
 use Rattle.unit_table.specs.declared.roster.Roster.{Roster}
-use Rattle.unit_table.specs.Runners.{Going}
+use Rattle.unit_table.specs.RunningSpells.{Going}
 
--- first periods before `until`, rising; among them is that of each runner that is on
+-- first periods before `until`, rising; among them is that of each running spell that is on
 pub record IsRoster (live : ℕ → Option Going) (until : ℕ) (roster : Roster) : Type 0 where
   pub few : roster.count ≤ until
   pub room : roster.count ≤ length roster.firsts.items

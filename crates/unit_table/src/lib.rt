@@ -9,10 +9,10 @@ pub mod laws;
 pub mod periods;
 pub mod question;
 pub mod roster;
-pub mod runner;
+pub mod running_spell;
 pub mod shared;
 
 pub use periods::fill_table;
 pub use question::{Period, Question};
-pub use runner::RunningSpell;
+pub use running_spell::RunningSpell;
 pub use shared::Shared;

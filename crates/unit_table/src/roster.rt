@@ -1,14 +1,14 @@
-//! Which runners are on: so that no loop goes over those that aren't.
+//! Which running spells are on: so that no loop goes over those that aren't.
 ghost use Rattle.std.specs.Prelude.{◌≡◌, ℕ, suc, ◌<◌, ◌≤◌, IfOk, length, slice_set};
 ghost use Rattle.uc_model.specs.declared.limits.TheConstants.{MOST_PERIODS};
 ghost use Rattle.unit_table.specs.Live.{live_at};
 ghost use Rattle.unit_table.specs.Rosters.{IsRoster};
 
-use crate::runner::{RunningSpell, running_spell_of_first_period};
+use crate::running_spell::{RunningSpell, running_spell_of_first_period};
 use plain_lists::lists::ReservedList;
 use std::alloc::{AllocError, Global};
 
-/// First periods of runners, rising: those of all that are on, and maybe of others.
+/// First periods of running spells, rising: those of all that are on, and maybe of others.
 pub struct Roster {
     /// The first `count` are meant.
     pub firsts: ReservedList<u32>,
@@ -55,20 +55,20 @@ impl Roster {
         self.count += 1;
     }
 
-    /// Takes those away whose runners are off.
-    pub fn keep(&mut self, runners: &[RunningSpell])
+    /// Takes those away whose running spells are off.
+    pub fn keep(&mut self, spells: &[RunningSpell])
         requires small { self.old.count ≤ 169 }
-        requires roster { (until : ℕ) × (until ≤ length runners.now)
-            × IsRoster (live_at runners.now) until self.old }
+        requires roster { (until : ℕ) × (until ≤ length spells.now)
+            × IsRoster (live_at spells.now) until self.old }
         ensures roster { (until : ℕ) →
-            IsRoster (live_at runners.now) until self.old →
-            IsRoster (live_at runners.now) until self.new }
+            IsRoster (live_at spells.now) until self.old →
+            IsRoster (live_at spells.now) until self.new }
         ensures length { length self.new.firsts.items ≡ length self.old.firsts.items }
     {
         let mut kept = 0;
         for index in 0..self.count {
             let first = *self.firsts.get(index as usize);
-            if running_spell_of_first_period(runners, first).is_on {
+            if running_spell_of_first_period(spells, first).is_on {
                 self.firsts.set(kept as usize, first);
                 kept += 1;
             }

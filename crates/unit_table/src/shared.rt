@@ -1,4 +1,4 @@
-//! What all runners write to by turns.
+//! What all running spells write to by turns.
 ghost use Rattle.std.specs.Prelude.{◌≡◌, ◌+◌, ◌*◌, ◌≤◌, IfOk};
 ghost use Rattle.slope_list.specs.Slopes.{space_of};
 ghost use Rattle.uc_model.specs.declared.limits.TheConstants.{MOST_PERIODS};
@@ -8,7 +8,7 @@ use slope_list::Spare;
 use spell_run::Log;
 use std::alloc::{AllocError, Global};
 
-/// What all runners write to by turns.
+/// What all running spells write to by turns.
 pub struct Shared {
     /// Room for the next step of one of them.
     pub spare: Spare,
@@ -23,7 +23,7 @@ impl Drop for Shared {
     }
 }
 
-/// Room enough for the entries of a log: at each period one for each runner that began by then, the
+/// Room enough for the entries of a log: at each period one for each running spell that began by then, the
 /// one that was on before the horizon among them. (One more spares a proof that the product is even.)
 fn most_log_entries(periods: u32) -> u32
     requires { periods ≤ MOST_PERIODS }
@@ -35,7 +35,7 @@ fn most_log_entries(periods: u32) -> u32
 impl Shared {
     ghost use Rattle.unit_table.specs.Live.{HasRoomFor};
 
-    /// Room for steps of so many pieces, and for what runners leave of so many periods.
+    /// Room for steps of so many pieces, and for what running spells leave of so many periods.
     pub fn make(alloc: Global, periods: u32, pieces: usize) -> Result<Shared, AllocError>
         requires { periods ≤ MOST_PERIODS }
         ensures spare { IfOk result (λ s. space_of s.spare ≡ pieces) }

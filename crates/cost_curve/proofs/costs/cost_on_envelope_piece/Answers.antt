@@ -11,7 +11,7 @@ use Rattle.cost_curve.proofs.costs.cost_on_envelope_piece.Goals.{In-Some}
 abbrev no_point : Point
 no_point = record { at = pos 0; cost = pos 0 }
 
--- the way on from the leg's point, and the power between its two ends
+-- the way on from the piece's point, and the power between its two ends
 module _ (c : In-Some) where
   lead : LeadsOn c.args.points.now c.args.piece.from (length c.args.points.now) c.in-Some.edge
   lead = subst (λ (way : Option Edge). IsWayOn c.args.points.now c.args.piece.from (length c.args.points.now) way)

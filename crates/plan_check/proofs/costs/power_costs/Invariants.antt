@@ -1,5 +1,5 @@
 use Rattle.plan_check.proofs.Common.{◌≡◌, ◌*◌, pos, neg_ℤ, IsFrom, thermal_of, schedule_of, sum_below, production_at}
-use Rattle.cost_curve.specs.Legs.{IsNear}
+use Rattle.cost_curve.specs.EnvelopePieces.{IsNear}
 use Rattle.plan_check.proofs.costs.power_costs.Given as goal
 
 abbrev pub invariant-loop-index : goal.invariant-loop-index

@@ -65,7 +65,7 @@ write_earlier_spells-requires t c =
             (
               c.requires.room,
               (
-                c.requires.runners,
+                c.requires.spells,
                 (low, (into, idle)),
               ),
             ),
@@ -74,8 +74,8 @@ write_earlier_spells-requires t c =
       ),
     )
 
-pub write_spell_dispatch-requires-clause-runners : goal.write_spell_dispatch-requires-clause-runners
-write_spell_dispatch-requires-clause-runners t c =
+pub write_spell_dispatch-requires-clause-spells : goal.write_spell_dispatch-requires-clause-spells
+write_spell_dispatch-requires-clause-spells t c =
     let u = c.args.unit.now in
     let r = row_back_within c.rows_within_cost_limits_are_kept.ensures.rows
     c.rows_within_cost_limits_are_kept.ensures.starts (thermal_of u)
@@ -89,7 +89,7 @@ write_spell_dispatch-requires-clause-noted t c = λ one.
     let last = c.args.last in
     let first = first-is c.args.rows.now last c.in-Some.ended c.in-Some.is in
     subst (λ (f : ℕ). IsSpellNoted (thermal_of c.args.unit.now) (prices_of c.args.prices.now) f last
-    (since f (left_at c.args.backtracks.log.now c.args.backtracks.runners.now f))) first
+    (since f (left_at c.args.backtracks.log.now c.args.backtracks.spells.now f))) first
     (c.requires.backtracks last c.in-Some.ended.cost one c.requires.last
     (cost-is c.args.rows.now last c.in-Some.ended c.in-Some.is)).1
 

@@ -8,8 +8,8 @@ pub write_least_cost_dispatch_of_spell-requires-clause-noted :
     goal.write_least_cost_dispatch_of_spell-requires-clause-noted
 write_least_cost_dispatch_of_spell-requires-clause-noted c =
     let one : 1 ≤ c.args.last = omega arith in
-    let item = slice_get-get_or c.args.backtracks.runners.now c.args.first c.index-backtracks-first.result
-    c.requires.runners in
+    let item = slice_get-get_or c.args.backtracks.spells.now c.args.first c.index-backtracks-first.result
+    c.requires.spells in
     subst (IsSpellNoted (thermal_of c.args.unit.now) (prices_of c.args.prices.now) c.args.first c.args.last)
     (ap (λ o. since c.args.first (left_of c.args.backtracks.log.now o)) item)
     (c.requires.noted one)
@@ -18,17 +18,17 @@ pub write_least_cost_dispatch_of_spell-requires-clause-trace :
     goal.write_least_cost_dispatch_of_spell-requires-clause-trace
 write_least_cost_dispatch_of_spell-requires-clause-trace c =
     c.requires.traces c.args.first _
-    (slice_get-get_or c.args.backtracks.runners.now c.args.first c.index-backtracks-first.result c.requires.runners)
+    (slice_get-get_or c.args.backtracks.spells.now c.args.first c.index-backtracks-first.result c.requires.spells)
 
 pub write_least_cost_dispatch_of_spell-requires-clause-room :
     goal.write_least_cost_dispatch_of_spell-requires-clause-room
 write_least_cost_dispatch_of_spell-requires-clause-room c =
     let one : 1 ≤ c.args.last = omega arith in
-    let item = slice_get-get_or c.args.backtracks.runners.now c.args.first c.index-backtracks-first.result
-    c.requires.runners in
+    let item = slice_get-get_or c.args.backtracks.spells.now c.args.first c.index-backtracks-first.result
+    c.requires.spells in
     let noted = c.requires.noted one in
     let k = c.args.last - 1 - (c.args.first - 1) in
-    let trace = (get_or c.args.backtracks.runners.now c.args.first c.index-backtracks-first.result).trace in
+    let trace = (get_or c.args.backtracks.spells.now c.args.first c.index-backtracks-first.result).trace in
     let low = end_within c.args.backtracks.log.now trace.last trace.count k noted.lowest
     (sym (ap (λ o. (left_of c.args.backtracks.log.now o k).end) item) ∙ noted.is_end) in
     omega (arith, low)

@@ -25,13 +25,13 @@ fill_table-requires-clause-have c =
 pub returns-clause-bench : goal.returns-clause-bench
 returns-clause-bench c = λ periods points b.
     let lent = c.as_mut_slice.ensures in
-    let same = with_items_is c.args.bench.now.runners c.fill_table.new.runners
+    let same = with_items_is c.args.bench.now.spells c.fill_table.new.spells
     (c.fill_table.ensures.same.count_same ∙ lent.len) in
     bench_kept periods points c.args.bench.now
     (record {
       curve = c.curve_into.new.into;
-      runners = with_items c.args.bench.now.runners
-          c.fill_table.new.runners;
+      spells = with_items c.args.bench.now.spells
+          c.fill_table.new.spells;
       shared = c.fill_table.new.shared;
       origins = c.fill_table.new.origins;
       roster = c.fill_table.new.roster;
@@ -51,7 +51,7 @@ returns-clause-bench c = λ periods points b.
 pub returns-clause-backtracks : goal.returns-clause-backtracks
 returns-clause-backtracks c =
     let lent = c.as_mut_slice.ensures in
-    let same = with_items_is c.args.bench.now.runners c.fill_table.new.runners
+    let same = with_items_is c.args.bench.now.spells c.fill_table.new.spells
     (c.fill_table.ensures.same.count_same ∙ lent.len) in
     subst (λ (xs : List RunningSpell). CanBacktrack (thermal_of c.args.unit.now) (prices_of c.args.prices.now)
     (length c.args.prices.now.energy.items) (cost_at c.fill_table.new.table.items)
@@ -61,7 +61,7 @@ returns-clause-backtracks c =
 pub returns-clause-traces : goal.returns-clause-traces
 returns-clause-traces c =
     let lent = c.as_mut_slice.ensures in
-    let same = with_items_is c.args.bench.now.runners c.fill_table.new.runners
+    let same = with_items_is c.args.bench.now.spells c.fill_table.new.spells
     (c.fill_table.ensures.same.count_same ∙ lent.len) in
     subst (AreTraces c.fill_table.new.shared.log.items) (sym same) c.fill_table.ensures.traces
 
@@ -76,7 +76,7 @@ fill_table-requires-clause-long c =
     let bench = c.requires.bench in
     record {
       rows_end = bench.rows;
-      runners_end = subst (λ (xs : List RunningSpell). length c.args.prices.now.energy.items < length xs)
+      spells_end = subst (λ (xs : List RunningSpell). length c.args.prices.now.energy.items < length xs)
           (sym c.as_mut_slice.ensures.value) bench.count;
       firsts_end = bench.roster;
       list_end = bench.origins;

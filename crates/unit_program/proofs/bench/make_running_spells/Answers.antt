@@ -8,6 +8,6 @@ loop-preserved c =
     record {
       count = omega (arith, simp length-append at (ap length items));
       capacity = omega (arith, c.push_reserved.ensures.capacity);
-      room = room_more c.args.pieces c.loop.runners.items c.push_reserved.new.self.items _ items
+      room = room_more c.args.pieces c.loop.spells.items c.push_reserved.new.self.items _ items
           (omega (arith, c.in_ok-running.ensures.room)) c.loop.invariant.room;
     }

@@ -3,7 +3,7 @@ use Rattle.unit_program.proofs.bench.make_running_spells.Given as goal
 
 abbrev pub invariant-loop : goal.invariant-loop
 invariant-loop l = record {
-  count : length l.runners.items ≡ l.counter;
-  capacity : l.count ≤ vec_capacity l.runners;
-  room : HaveRoom l.pieces l.runners.items;
+  count : length l.spells.items ≡ l.counter;
+  capacity : l.count ≤ vec_capacity l.spells;
+  room : HaveRoom l.pieces l.spells.items;
 }

@@ -52,7 +52,7 @@ pub fill_table_row_of_period-requires-clause-long : goal.fill_table_row_of_perio
 fill_table_row_of_period-requires-clause-long c =
     record {
       rows_end = omega arith;
-      runners_end = omega arith;
+      spells_end = omega arith;
       firsts_end = omega arith;
       list_end = omega arith;
       log_end = (let same = c.loop-index.invariant.same.log_same in let end = c.requires.long.log_end in omega arith);
@@ -77,7 +77,7 @@ returns-clause-filled c = λ most right.
     let end : c.loop-index.index ≡ periods_in c.args.question.now = omega arith in
     filled_whole (unit_of c.args.question.now) (prices_in c.args.question.now) c.args.question.now.unit.now.valid
     c.start_costs_are_within.ensures most (limits_in c.args.question.now) right c.loop-index.table.items
-    (live_at c.loop-index.runners)
+    (live_at c.loop-index.spells)
     (rw end at c.loop-index.invariant.now.filled)
 
 pub returns-clause-backtracks : goal.returns-clause-backtracks
@@ -85,7 +85,7 @@ returns-clause-backtracks c =
     let end : c.loop-index.index ≡ periods_in c.args.question.now = omega arith in
     subst (λ (t : ℕ). CanBacktrack (unit_of c.args.question.now) (prices_in c.args.question.now) t
     (cost_at c.loop-index.table.items) (first_at c.loop-index.table.items)
-    (left_at c.loop-index.shared.log.items c.loop-index.runners)) end
+    (left_at c.loop-index.shared.log.items c.loop-index.spells)) end
     c.loop-index.invariant.now.backtracks
 
 pub begin-requires-clause-rows : goal.begin-requires-clause-rows

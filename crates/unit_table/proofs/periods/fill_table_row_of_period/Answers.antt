@@ -1,7 +1,7 @@
 use Rattle.unit_table.proofs.Common.{rules, ◌≡◌, ℕ, suc, ◌+◌, pos, length, refl, sym, ap, ◌∙◌, arith, to_z}
 use Rattle.unit_table.proofs.Common.{of_z, FitsSigned, w64, to_z-of_z, get_or_from_slice_get, ℤ, Some, List, slice_get}
 use Rattle.unit_table.proofs.Common.{unit_of, prices_in, periods_in, charge_of, limits_in, int_at, live_at, left_at}
-use Rattle.unit_table.proofs.Common.{cost_at, first_at, AreRunners, AreSmall, add-one, inl, inr, cases_eq}
+use Rattle.unit_table.proofs.Common.{cost_at, first_at, AreRunningSpells, AreSmall, add-one, inl, inr, cases_eq}
 use Rattle.unit_table.proofs.Lemmas.{small_of, still_roomy, origins_within, period_off, period_run, period_filled}
 use Rattle.unit_table.proofs.Lemmas.{none_listed, still_listed, cost-same, first-same, ways_same, ways_none}
 use Rattle.unit_table.proofs.Lemmas.{ways_more, kept_then, kept_room, kept_roomy, kept_left, fewer_then}
@@ -19,7 +19,7 @@ returns-then-is_must_off-clause-now c =
     let g = unit_of c.args.period.now.question.now in
     let π = prices_in c.args.period.now.question.now in
     let rows = c.args.table.now.items in
-    let old = c.args.runners.now in
+    let old = c.args.spells.now in
     let log = c.args.shared.now.log.items in
     let now = c.requires.now in
     let off = c.stop_all_running_spells.ensures.off in
@@ -29,19 +29,19 @@ returns-then-is_must_off-clause-now c =
       filled = period_off g π (limits_in c.args.period.now.question.now) c.args.period.now.question.now.unit.now.valid
           c.args.period.now.index rows
           (live_at old) now.filled c.args.period.now.inside
-          (live_at c.stop_all_running_spells.new.runners) off (c.is_must_off.ensures.yes c.if-is_must_off.true);
+          (live_at c.stop_all_running_spells.new.spells) off (c.is_must_off.ensures.yes c.if-is_must_off.true);
       noted = λ f r on x v there k from until. (let none = off f in absurd (cc));
       backtracks = ways_same g π (suc c.args.period.now.index) (cost_at rows) (first_at rows) (left_at log old)
-          (left_at log c.stop_all_running_spells.new.runners) (kept_left _ _ kept log)
+          (left_at log c.stop_all_running_spells.new.spells) (kept_left _ _ kept log)
           (ways_none g π c.args.period.now.index (cost_at rows) (first_at rows) (left_at log old) none now.backtracks);
       traces = kept_trails _ _ kept log now.traces;
       entries = entries_more (length log) c.args.period.now.index (length log) now.entries (omega arith);
       roomy = still_roomy (periods_in c.args.period.now.question.now) c.args.period.now.index
           (suc c.args.period.now.index)
-          (charge_of c.args.period.now.question.now) c.stop_all_running_spells.new.runners (omega arith) off
+          (charge_of c.args.period.now.question.now) c.stop_all_running_spells.new.spells (omega arith) off
           (kept_roomy _ _ kept (periods_in c.args.period.now.question.now) c.args.period.now.index
           (charge_of c.args.period.now.question.now) (λ f. inl (inr (off f))) now.roomy);
-      roster_is = none_listed (live_at c.stop_all_running_spells.new.runners) (suc (suc c.args.period.now.index))
+      roster_is = none_listed (live_at c.stop_all_running_spells.new.spells) (suc (suc c.args.period.now.index))
           c.clear.new.self
           c.clear.ensures.count off;
     }
@@ -55,35 +55,35 @@ returns-then-is_must_off-clause-same c = record {
   keeps = kept_room _ _ c.stop_all_running_spells.ensures.kept;
 }
 
--- ---- the runners, step by step
+-- ---- the running spells, step by step
 
 limit_at : (limits : List ℤ) (k : ℕ) (x : ℤ) → FitsSigned w64 x → slice_get limits k ≡ Some x →
     int_at limits k ≡ to_z w64 (of_z w64 x)
 limit_at limits k x fits is = get_or_from_slice_get limits k x (pos 0) is ∙ sym (to_z-of_z w64 x fits)
 
 -- after a start
-begun : (c : After-begin_spell_of_next_period) → AreRunners (unit_of c.args.period.now.question.now)
+begun : (c : After-begin_spell_of_next_period) → AreRunningSpells (unit_of c.args.period.now.question.now)
     (prices_in c.args.period.now.question.now)
     (limits_in c.args.period.now.question.now) (cost_at c.args.table.now.items)
-    (live_at c.begin_spell_of_next_period.new.runners)
+    (live_at c.begin_spell_of_next_period.new.spells)
     c.args.period.now.index
     (suc (suc c.args.period.now.index))
 begun c = c.begin_spell_of_next_period.ensures.stands (prices_in c.args.period.now.question.now)
     (limits_in c.args.period.now.question.now)
     (cost_at c.args.table.now.items)
     (limit_at c.args.period.now.question.now.limits.now.items c.args.period.now.index c.get-limit.result.now
-    (search rules) c.get-limit.ensures.item) c.requires.origins c.requires.now.filled.runners
+    (search rules) c.get-limit.ensures.item) c.requires.origins c.requires.now.filled.spells
 
 -- and over the period
-ran : (c : After-advance_all_running_spells) → AreRunners (unit_of c.args.period.now.question.now)
+ran : (c : After-advance_all_running_spells) → AreRunningSpells (unit_of c.args.period.now.question.now)
     (prices_in c.args.period.now.question.now)
     (limits_in c.args.period.now.question.now) (cost_at c.args.table.now.items)
-    (live_at c.begin_spell_of_next_period.new.runners)
+    (live_at c.begin_spell_of_next_period.new.spells)
     c.args.period.now.index
     (suc (suc c.args.period.now.index)) →
-    AreRunners (unit_of c.args.period.now.question.now) (prices_in c.args.period.now.question.now)
+    AreRunningSpells (unit_of c.args.period.now.question.now) (prices_in c.args.period.now.question.now)
     (limits_in c.args.period.now.question.now) (cost_at c.args.table.now.items)
-    (live_at c.advance_all_running_spells.new.runners)
+    (live_at c.advance_all_running_spells.new.spells)
     (suc c.args.period.now.index)
     (suc (suc c.args.period.now.index))
 ran c now = period_run _ _ _ c.args.period.now.question.now.unit.now.valid _ _ _ c.requires.now.filled
@@ -94,11 +94,11 @@ ran c now = period_run _ _ _ c.args.period.now.question.now.unit.now.valid _ _ _
     c.advance_all_running_spells.ensures.run.off
 
 ran_small : (c : After-advance_all_running_spells) →
-    AreRunners (unit_of c.args.period.now.question.now) (prices_in c.args.period.now.question.now)
+    AreRunningSpells (unit_of c.args.period.now.question.now) (prices_in c.args.period.now.question.now)
     (limits_in c.args.period.now.question.now) (cost_at c.args.table.now.items)
-    (live_at c.begin_spell_of_next_period.new.runners)
+    (live_at c.begin_spell_of_next_period.new.spells)
     c.args.period.now.index
-    (suc (suc c.args.period.now.index)) → AreSmall (live_at c.advance_all_running_spells.new.runners)
+    (suc (suc c.args.period.now.index)) → AreSmall (live_at c.advance_all_running_spells.new.spells)
 ran_small c now = small_of _ _ _ _ _ (suc c.args.period.now.index) (suc (suc c.args.period.now.index)) (omega arith)
     (omega arith) (ran c now)
 
@@ -112,8 +112,8 @@ pub begin_spell_of_next_period-requires-clause-small : goal.begin_spell_of_next_
 begin_spell_of_next_period-requires-clause-small c =
     small_of (unit_of c.args.period.now.question.now) (prices_in c.args.period.now.question.now)
     (limits_in c.args.period.now.question.now) _
-    (live_at c.args.runners.now) c.args.period.now.index (suc c.args.period.now.index)
-    (omega arith) (omega arith) c.requires.now.filled.runners
+    (live_at c.args.spells.now) c.args.period.now.index (suc c.args.period.now.index)
+    (omega arith) (omega arith) c.requires.now.filled.spells
 
 pub advance_all_running_spells-requires-clause-room : goal.advance_all_running_spells-requires-clause-room
 advance_all_running_spells-requires-clause-room c =
@@ -166,14 +166,14 @@ stop_dominated_spells-requires-clause-small c =
 
 pub stop_spells_above_cost_limit-requires-clause-roster : goal.stop_spells_above_cost_limit-requires-clause-roster
 stop_spells_above_cost_limit-requires-clause-roster c =
-    still_listed (live_at c.begin_spell_of_next_period.new.runners) (live_at c.advance_all_running_spells.new.runners)
+    still_listed (live_at c.begin_spell_of_next_period.new.spells) (live_at c.advance_all_running_spells.new.spells)
     (suc (suc c.args.period.now.index))
     (suc (c.args.period.now.index + 1)) c.begin_spell_of_next_period.new.roster (omega arith)
     c.advance_all_running_spells.ensures.run.off c.begin_spell_of_next_period.ensures.roster
 
 pub stop_dominated_spells-requires-clause-roster : goal.stop_dominated_spells-requires-clause-roster
 stop_dominated_spells-requires-clause-roster c =
-    still_listed (live_at c.begin_spell_of_next_period.new.runners) (live_at c.stop_spells_above_cost_limit.new.runners)
+    still_listed (live_at c.begin_spell_of_next_period.new.spells) (live_at c.stop_spells_above_cost_limit.new.spells)
     (suc (suc c.args.period.now.index))
     (suc (c.args.period.now.index + 1)) c.begin_spell_of_next_period.new.roster (omega arith)
     (λ f off. fewer_off _ _ c.stop_spells_above_cost_limit.ensures.fewer f
@@ -184,7 +184,7 @@ pub keep-requires-clause-roster : goal.keep-requires-clause-roster
 keep-requires-clause-roster c = (
   suc (suc c.args.period.now.index),
   omega arith,
-  still_listed (live_at c.begin_spell_of_next_period.new.runners) (live_at c.stop_dominated_spells.new.runners)
+  still_listed (live_at c.begin_spell_of_next_period.new.spells) (live_at c.stop_dominated_spells.new.spells)
       (suc (suc c.args.period.now.index))
       (suc (suc c.args.period.now.index)) c.begin_spell_of_next_period.new.roster (omega arith)
       (λ f off. fewer_off _ _ (fewer_then _ _ _ c.stop_spells_above_cost_limit.ensures.fewer
@@ -219,24 +219,24 @@ returns-clause-now c =
     let fewer = fewer_then _ _ _ c.stop_spells_above_cost_limit.ensures.fewer c.stop_dominated_spells.ensures.fewer in
     let log = c.args.shared.now.log.items in
     let log' = c.advance_all_running_spells.new.log.items in
-    let old_left = left_at log c.args.runners.now in
-    let start_left = left_at log c.begin_spell_of_next_period.new.runners in
-    let ran_left = left_at log' c.advance_all_running_spells.new.runners in
+    let old_left = left_at log c.args.spells.now in
+    let start_left = left_at log c.begin_spell_of_next_period.new.spells in
+    let ran_left = left_at log' c.advance_all_running_spells.new.spells in
     let left = ways_same g π c.args.period.now.index (cost_at rows) (first_at rows) old_left start_left
     (kept_left _ _ c.begin_spell_of_next_period.ensures.kept log) c.requires.now.backtracks in
-    let started = noted_start g π c.args.period.now.index (live_at c.args.runners.now)
-    (live_at c.begin_spell_of_next_period.new.runners)
+    let started = noted_start g π c.args.period.now.index (live_at c.args.spells.now)
+    (live_at c.begin_spell_of_next_period.new.spells)
     old_left start_left c.begin_spell_of_next_period.ensures.others
     (kept_left _ _ c.begin_spell_of_next_period.ensures.kept log)
     c.requires.now.noted in
-    let noted = noted_all g π c.args.period.now.index (live_at c.begin_spell_of_next_period.new.runners)
-    (live_at c.advance_all_running_spells.new.runners) start_left ran_left (λ f r on. (now.right f r on).1.frontier)
+    let noted = noted_all g π c.args.period.now.index (live_at c.begin_spell_of_next_period.new.spells)
+    (live_at c.advance_all_running_spells.new.spells) start_left ran_left (λ f r on. (now.right f r on).1.frontier)
     run.goes run.off
     run.left run.noted started in
     let backtracks = ways_more g π c.args.period.now.index (suc (suc c.args.period.now.index)) (cost_at rows)
     (cost_at rows')
     (first_at rows)
-    (first_at rows') _ start_left ran_left (live_at c.begin_spell_of_next_period.new.runners) limits now started
+    (first_at rows') _ start_left ran_left (live_at c.begin_spell_of_next_period.new.spells) limits now started
     run.row run.ends
     run.left
     (λ l other. cost-same rows' rows l l (run.others l other))
@@ -244,23 +244,23 @@ returns-clause-now c =
     record {
       filled = period_filled _ _ _ c.args.period.now.question.now.unit.now.valid _ _ _ c.requires.now.filled
           c.args.period.now.inside
-          rows' _ (live_at c.advance_all_running_spells.new.runners) now c.requires.limits.0 c.requires.limits.1
+          rows' _ (live_at c.advance_all_running_spells.new.spells) now c.requires.limits.0 c.requires.limits.1
           c.dispatches_meeting_at_power_continue_alike.ensures c.dispatches_are_runs.ensures
-          (live_at c.stop_dominated_spells.new.runners) pruned run.row
+          (live_at c.stop_dominated_spells.new.spells) pruned run.row
           run.others run.within;
-      noted = noted_fewer g π (suc c.args.period.now.index) (live_at c.advance_all_running_spells.new.runners)
-          (live_at c.stop_dominated_spells.new.runners) ran_left (left_at log' c.stop_dominated_spells.new.runners)
+      noted = noted_fewer g π (suc c.args.period.now.index) (live_at c.advance_all_running_spells.new.spells)
+          (live_at c.stop_dominated_spells.new.spells) ran_left (left_at log' c.stop_dominated_spells.new.spells)
           fewer
           (kept_left _ _ kept log')
           noted;
       backtracks = ways_same g π (suc c.args.period.now.index) (cost_at rows') (first_at rows') ran_left
-          (left_at log' c.stop_dominated_spells.new.runners) (kept_left _ _ kept log') backtracks;
+          (left_at log' c.stop_dominated_spells.new.spells) (kept_left _ _ kept log') backtracks;
       traces = kept_trails _ _ kept log' run.traces;
       entries = entries_more (length log) c.args.period.now.index (length log') c.requires.now.entries run.entries;
       roomy = kept_roomy _ _ kept (periods_in c.args.period.now.question.now) (suc c.args.period.now.index)
           (charge_of c.args.period.now.question.now) (λ f. inl (fewer f)) run.roomy;
       roster_is = c.keep.ensures.roster (suc (suc c.args.period.now.index))
-          (still_listed (live_at c.begin_spell_of_next_period.new.runners) (live_at c.stop_dominated_spells.new.runners)
+          (still_listed (live_at c.begin_spell_of_next_period.new.spells) (live_at c.stop_dominated_spells.new.spells)
           (suc (suc c.args.period.now.index))
           (suc (suc c.args.period.now.index)) c.begin_spell_of_next_period.new.roster (omega arith)
           (λ f off. fewer_off _ _ fewer f (run.off f off)) c.begin_spell_of_next_period.ensures.roster);

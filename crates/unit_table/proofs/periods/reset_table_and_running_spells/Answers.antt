@@ -10,7 +10,7 @@ returns-clause-filled c = λ π limits some.
       table = table_begun (thermal_of c.args.unit.now) π some c.reset_table_to_row_before_horizon.new.table.items
           begun.first begun.rest
           limits;
-      runners = c.continue_initial_spell.ensures.stands π limits
+      spells = c.continue_initial_spell.ensures.stands π limits
           (cost_at c.reset_table_to_row_before_horizon.new.table.items);
       within = begun.within;
     }
@@ -18,7 +18,7 @@ returns-clause-filled c = λ π limits some.
 pub returns-clause-room : goal.returns-clause-room
 returns-clause-room c = λ room periods charge fits have.
     kept_roomy _ _ c.continue_initial_spell.ensures.kept periods 0 charge (λ f. inr (omega arith))
-    (off_roomy room periods 0 charge c.stop_all_spells_and_forget_their_log.new.runners
+    (off_roomy room periods 0 charge c.stop_all_spells_and_forget_their_log.new.spells
     c.stop_all_spells_and_forget_their_log.ensures.off
     c.stop_all_spells_and_forget_their_log.ensures.none fits
     (c.stop_all_spells_and_forget_their_log.ensures.rooms.keeps room have))
@@ -26,7 +26,7 @@ returns-clause-room c = λ room periods charge fits have.
 pub returns-clause-traces : goal.returns-clause-traces
 returns-clause-traces c =
     kept_trails _ _ c.continue_initial_spell.ensures.kept _
-    (none_trails _ c.stop_all_spells_and_forget_their_log.new.runners
+    (none_trails _ c.stop_all_spells_and_forget_their_log.new.spells
     c.stop_all_spells_and_forget_their_log.ensures.none)
 
 pub returns-clause-same : goal.returns-clause-same

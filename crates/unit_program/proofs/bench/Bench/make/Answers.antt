@@ -9,9 +9,9 @@ returns c =
     let limits = simp length-replicate at (ap length c.in_ok-limits.ensures) in
     record {
       blocks = omega (arith, c.in_ok-blocks.ensures.room);
-      count = omega (arith, c.in_ok-runners.ensures.count);
+      count = omega (arith, c.in_ok-spells.ensures.count);
       space = omega (arith, c.in_ok-shared.ensures.spare);
-      room = λ f r is. c.in_ok-shared.ensures.spare ∙ c.in_ok-runners.ensures.room f r is;
+      room = λ f r is. c.in_ok-shared.ensures.spare ∙ c.in_ok-spells.ensures.room f r is;
       log = c.in_ok-shared.ensures.log;
       rows = omega (arith, rows);
       origins = origins;

@@ -6,7 +6,7 @@ use Rattle.unit_table.proofs.roster.Roster.keep.Goals.{else-running_spell_of_fir
 
 pub loop-index-init : goal.loop-index-init
 loop-index-init c = record {
-  kept = λ until list. none_kept (live_at c.args.runners.now) until c.args.self.now list;
+  kept = λ until list. none_kept (live_at c.args.spells.now) until c.args.self.now list;
   low = omega arith;
   same_length = refl;
   count_same = refl;
@@ -15,7 +15,7 @@ loop-index-init c = record {
 pub running_spell_of_first_period-requires : goal.running_spell_of_first_period-requires
 running_spell_of_first_period-requires c =
     let list = c.requires.roster in
-    let below = first_inside (live_at c.args.runners.now) list.0 c.args.self.now list.2 c.loop-index.index
+    let below = first_inside (live_at c.args.spells.now) list.0 c.args.self.now list.2 c.loop-index.index
     c.loop-index.kept c.loop-index.self.firsts.items
     (c.loop-index.invariant.kept list.0 list.2) (omega arith) c.get-first.result.now
     c.get-first.ensures.item in
@@ -23,7 +23,7 @@ running_spell_of_first_period-requires c =
 
 pub loop-index-preserved : goal.loop-index-preserved
 loop-index-preserved c =
-    let live = live_at c.args.runners.now in
+    let live = live_at c.args.spells.now in
     let old = c.args.self.now in
     let p = c.loop-index.index in
     let q = c.loop-index.kept in
@@ -48,7 +48,7 @@ loop-index-preserved c =
           rw w.self-is (rw w.kept-is (record {
             kept = λ until list. one_off live until old list p q items (c.loop-index.invariant.kept until list) inside
                 first c.get-first.ensures.item
-                (off_from c.args.runners.now first c.running_spell_of_first_period.result.now
+                (off_from c.args.spells.now first c.running_spell_of_first_period.result.now
                 c.running_spell_of_first_period.ensures w.if-running_spell_of_first_period.false);
             low = omega arith;
             same_length = same_length;
@@ -58,5 +58,5 @@ loop-index-preserved c =
 
 pub returns-clause-roster : goal.returns-clause-roster
 returns-clause-roster c = λ until list.
-    all_kept (live_at c.args.runners.now) until c.args.self.now list c.loop-index.index _
+    all_kept (live_at c.args.spells.now) until c.args.self.now list c.loop-index.index _
     (omega arith) (omega arith) (c.loop-index.invariant.kept until list)

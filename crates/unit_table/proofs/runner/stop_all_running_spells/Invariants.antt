@@ -1,8 +1,0 @@
-use Rattle.unit_table.proofs.Common.{◌≡◌, ℕ, ◌<◌, None, live_at, AreKept}
-use Rattle.unit_table.proofs.runner.stop_all_running_spells.Given as goal
-
-abbrev pub invariant-loop-index : goal.invariant-loop-index
-invariant-loop-index l = record {
-  off : (f : ℕ) → f < l.index → live_at l.runners f ≡ None;
-  kept : AreKept l.fn.runners l.runners;
-}
