@@ -85,17 +85,29 @@ def need_whole(where: str, numbers: Iterator[Found], unit: Optional[str] = None)
         raise HullError(f"{where}: {why.line}", unit=unit, period=period) from None
 
 
+def need_names(case: Case) -> None:
+    """Refuses a case in which two units of a kind have one name: its file would have the last of them alone."""
+    seen: set[tuple[str, str]] = set()
+    for kind, unit in case.units:
+        if not isinstance(unit.name, str):
+            raise HullError(f"the case given: a {kind} has the name {told_value(unit.name)}: a text is due")
+        if (kind, unit.name) in seen:
+            raise HullError(f'the case given: {kind} "{one_line(unit.name)}" stands twice', unit=unit.name)
+        seen.add((kind, unit.name))
+
+
 LISTS: dict[type, tuple[str, ...]] = {Thermal: ("marks",), Renewable: ("least", "most"), Bid: ("blocks",)}  # by period
 
 
 def need_form(case: Case) -> None:
-    """Refuses a case with a number that isn't whole, as 1.5 kilowatts, or a list that hasn't an item for each period."""
+    """Refuses a number that isn't whole, as 1.5 kilowatts, a list that hasn't an item for each period, and a name that stands twice."""
 
     def of_case() -> Iterator[Found]:
         yield "periods", case.periods, "", None
         yield from by_period("demand", case.demand)
         yield from by_period("reserves", case.reserves)
 
+    need_names(case)
     need_whole("the case given", of_case())
     need_lengths("the case given", {"demand": case.demand, "reserves": case.reserves}, case.periods)
     for kind, unit in case.units:

@@ -2,7 +2,7 @@
 import re
 from dataclasses import dataclass
 from decimal import Decimal, InvalidOperation
-from typing import Dict, List, Optional
+from typing import Collection, Dict, List, Optional, Set
 
 from .errors import HullError, named_rows, one_line, refuse_line_end
 from .numbers import Millionths
@@ -38,7 +38,26 @@ def amount_of(text: str, where: str) -> Millionths:
     return Millionths(int((number * 10**6).to_integral_value()))
 
 
-def statement_of(name: str, text: str, unit: str = "unit", amount: str = "amount") -> Dict[str, Millionths]:
+def shared_names(units: List[Owed]) -> Set[str]:
+    """The names that several kinds have: by these alone no unit is known."""
+    names = [unit.name for unit in units]
+    return {it for it in names if names.count(it) > 1} if len(set(names)) < len(names) else set()
+
+
+def key_of(row: Dict[str, str], unit: str, shared: Collection[str], where: str) -> str:
+    """The name of a row's unit, or its kind and name as thermal:G2 where several kinds have the name."""
+    # (tables of this package tell names of a spreadsheet's formulas apart)
+    name = as_it_was(row[unit].strip())
+    if name not in shared:
+        return name
+    if not row.get("kind", "").strip():
+        raise HullError(f"{where}: several kinds have a unit {one_line(name)!r}: write it as thermal:{one_line(name)}")
+    return f"{row['kind'].strip()}:{name}"
+
+
+def statement_of(
+    name: str, text: str, unit: str = "unit", amount: str = "amount", shared: Collection[str] = ()
+) -> Dict[str, Millionths]:
     """The amounts by unit of a statement with these columns; what stands in several rows of one unit is added up."""
     columns, rows = named_rows(text.removeprefix("\ufeff"), name)
     missing = [it for it in (unit, amount) if it not in columns]
@@ -48,17 +67,17 @@ def statement_of(name: str, text: str, unit: str = "unit", amount: str = "amount
     for line, row in rows:
         for column in (it for it in columns if it != unit):
             refuse_line_end(row[column], f"{name}, line {line}")
-        # (tables of this package tell names of a spreadsheet's formulas apart)
-        key = as_it_was(row[unit].strip())
+        key = key_of(row, unit, shared, f"{name}, line {line}")
         found[key] = Millionths(found.get(key, 0) + amount_of(row[amount], f"{name}, line {line}"))
     return found
 
 
 def differences(statement: Dict[str, Millionths], units: List[Owed], rule: str) -> List[Difference]:
     """Every unit of either, the largest difference first."""
-    settled: Dict[str, Millionths] = {}
-    for owed in units:
-        settled[owed.name] = Millionths(settled.get(owed.name, 0) + paid(owed, rule))
+    shared = shared_names(units)
+    settled = {
+        f"{owed.kind}:{owed.name}" if owed.name in shared else owed.name: Millionths(paid(owed, rule)) for owed in units
+    }
     names = [*settled, *(name for name in statement if name not in settled)]
     found = [Difference(name, statement.get(name), settled.get(name)) for name in names]
     return sorted(found, key=lambda it: (-abs(it.amount), it.unit))

@@ -408,6 +408,11 @@ def refuse_inputs(to: str, inputs: Sequence[str]) -> None:
             pass
 
 
+def files_at(name: str) -> list[str]:
+    """The file of a name, or those of its folder: none of them is to be replaced."""
+    return [os.path.join(name, it) for it in os.listdir(name)] if os.path.isdir(name) else [name]
+
+
 def behind_links(name: str) -> Iterator[str]:
     """The name, and those that its links lead to one after another; the folder of each is resolved."""
     for _ in range(MOST_LINKS):

@@ -92,7 +92,7 @@ def zonal_table(zonal: Zonal, currency: str = "") -> Table:
     heads = ["zone", "kind", "unit", *(f"{name}:money" for name in UNIT_SUMS)]
     table = Table(heads, True, currency.lower() or "currency")
     for unit in zonal.flows:
-        table.add(zonal.zones.zone_of(unit.owed.name), unit.owed.kind, unit.owed.name, *unit_sums(unit))
+        table.add(zonal.zones.zone_of(unit.owed.kind, unit.owed.name), unit.owed.kind, unit.owed.name, *unit_sums(unit))
     return table
 
 

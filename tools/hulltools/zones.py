@@ -22,7 +22,10 @@ ZONES_KEYS, PRICES_KEYS = ["zones", "units", "default"], ["energy", "reserve"]
 
 @dataclass
 class Zones(FieldsAlone):
-    """Price lists by zone, and the zone of each unit; `default` is the zone of those that have none."""
+    """Price lists by zone, and the zone of each unit; `default` is the zone of those that have none.
+
+    Under `units` a unit stands by its name, or by kind and name as `thermal:G2` where two kinds have the name.
+    """
 
     prices: Dict[str, Prices]
     units: Dict[str, str]
@@ -36,8 +39,8 @@ class Zones(FieldsAlone):
             members.append(f'"default": {json.dumps(self.default, ensure_ascii=False)}')
         return "{" + ", ".join(members) + "}\n"
 
-    def zone_of(self, unit: str) -> str:
-        return self.units.get(unit, self.default or "")
+    def zone_of(self, kind: str, name: str) -> str:
+        return self.units.get(f"{kind}:{name}", self.units.get(name, self.default or ""))
 
 
 def zones_of(name: Name, value: Any, case: Case) -> Zones:
@@ -54,15 +57,18 @@ def zones_of(name: Name, value: Any, case: Case) -> Zones:
         zone: prices_within(f"{name}, zone {one_line(zone)}", given, case.periods)
         for zone, given in value["zones"].items()
     }
-    known = [unit.name for _, unit in case.units]
     for unit, zone in units.items():
-        if unit not in known:
+        kinds = [kind for kind, it in case.units if unit in (it.name, f"{kind}:{it.name}")]
+        if not kinds:
             raise HullError(f'{name}: the case has no unit "{one_line(unit)}"')
+        if len(kinds) > 1:
+            told = f'the case has a {" and a ".join(kinds)} "{one_line(unit)}"'
+            raise HullError(f"{name}: {told}: say which, as {one_line(f'{kinds[0]}:{unit}')}")
         if not isinstance(zone, str) or zone not in prices:
             raise HullError(f'{name}: the zone of unit "{one_line(unit)}" has no prices')
     if default is not None and (not isinstance(default, str) or default not in prices):
         raise HullError(f"{name}: the default zone has no prices")
-    without = next((unit for unit in known if unit not in units), None)
+    without = next((it.name for kind, it in case.units if not units.keys() & {it.name, f"{kind}:{it.name}"}), None)
     if without is not None and default is None:
         raise HullError(f'{name}: unit "{one_line(without)}" has no zone, and there is no default')
     return Zones(prices, dict(units), default)
@@ -98,7 +104,7 @@ class Zonal:
 
 def settle_zones(settle: Callable[[Prices], Settlement], case: Case, schedule: Schedule, zones: Zones) -> Zonal:
     """Settles once at each zone's prices, by `settle`, and takes each unit's line from its zone's settlement."""
-    used = {zones.zone_of(unit.name) for _, unit in case.units}
+    used = {zones.zone_of(kind, unit.name) for kind, unit in case.units}
     settlements: Dict[str, Settlement] = {}
     for zone, prices in zones.prices.items():
         if zone in used:
@@ -107,4 +113,6 @@ def settle_zones(settle: Callable[[Prices], Settlement], case: Case, schedule: S
     costs = Costs()
     with step("revenue and cost by unit"):
         flows = {zone: unit_flows(case, schedule, it, costs) for zone, it in settlements.items()}
-    return Zonal(zones, settlements, [flows[zones.zone_of(unit.name)][i] for i, (_, unit) in enumerate(case.units)])
+    return Zonal(
+        zones, settlements, [flows[zones.zone_of(kind, it.name)][i] for i, (kind, it) in enumerate(case.units)]
+    )

@@ -795,6 +795,20 @@ class Others(WithRoom):
         what = "stand_by_cost of generators that aren't committable: PyPSA charges it to committable ones alone"
         self.assertIn(f"left out: {what} (1: g)\n", told)
 
+    def test_ramps_that_bind_at_starts_and_stops_are_told(self) -> None:
+        head = "name,bus,p_nom,committable,p_min_pu,ramp_limit_up,ramp_limit_down,ramp_limit_start_up,ramp_limit_shut_down\n"
+        told, _ = self.small_network(f"{head}g,b,10,True,0.2,0.3,0.4,1,1\nh,b,10,True,0.2,0.3,,0.5,1\n")
+        for line in (
+            "changed: starts: power above the least is held by ramp_up_limit there too (1: g)\n",
+            "changed: stops: power above the least is held by ramp_down_limit there too (1: g)\n",
+        ):
+            self.assertIn(line, told)
+
+    def test_a_share_of_pypsa_that_is_nan_is_told(self) -> None:
+        told, _ = self.small_network("name,bus,p_nom,p_max_pu\ng,b,10,nan\nh,b,10,\ni,b,10,0\n")
+        self.assertEqual(told, "assumed: p_max_pu that is nan: 1 is taken (1: g)\n")
+        self.assertEqual([it.most for it in read_case(f"{self.room}/case.json").renewable], [[10000] * 2] * 2 + [[0] * 2])
+
     def test_defaults_of_pypsa_are_not_told(self) -> None:
         head = "name,bus,p_nom,e_sum_min,e_sum_max\n"
         self.assertEqual(self.small_network(f"{head}g,b,10,-inf,inf\n")[0], "")

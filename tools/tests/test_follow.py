@@ -353,6 +353,20 @@ class Follow(unittest.TestCase):
             said,
         )
 
+    def test_tables_of_a_network_are_not_replaced(self) -> None:
+        network = f"{self.room}/network"
+        other_forms.pypsa(network)
+        with open(f"{network}/loads.csv", "rb") as file:
+            before = file.read()
+        plain = [f"{self.room}/{it}" for it in ("case.json", "made.json")]
+        for files, more in (([plain[0], f"{network}/loads.csv"], []), (plain, ["--deviations", f"{network}/loads.csv"])):
+            words = [*files, "--follow", network, *more, "--hull", PROGRAM]
+            status, _, said = run("make_schedule.py", *words, python=self.python)
+            due = f"make_schedule.py: {network}/loads.csv: this is a file to read, and it would be replaced\n"
+            self.assertEqual((status, said), (1, due))
+        with open(f"{network}/loads.csv", "rb") as file:
+            self.assertEqual(file.read(), before)
+
     def test_an_unsolved_network(self) -> None:
         other_forms.pypsa(f"{self.room}/network")
         status, said = self.follow("network")

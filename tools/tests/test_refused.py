@@ -737,6 +737,16 @@ class Members(Refusals):
         due = 'the case given: renewable "W1": least has 0 items, and the case 1 period'
         self.assertEqual(self.refused(due, hulltools.integer_relaxation, case).unit, "W1")
 
+    def test_two_units_of_one_name(self):
+        for kind in ("thermal", "renewable"):
+            case = usual()[0]
+            units = getattr(case, kind)
+            units.append(copy.deepcopy(units[0]))
+            due = f'the case given: {kind} "{units[0].name}" stands twice'
+            self.assertEqual(self.refused(due, case.text).unit, units[0].name)
+        case.renewable[1].name = 7
+        self.refused("the case given: a renewable has the name 7: a text is due", case.text)
+
     def test_units_of_a_case(self):
         case, given = usual()
         self.assertIs(case.unit("thermal", "G1"), case.thermal[0])

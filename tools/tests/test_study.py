@@ -15,12 +15,14 @@ import hulltools
 from hulltools.cash_flows import total, unit_flows, uplift_by_period
 from hulltools.clock import Clock
 from hulltools.commands.words import add_fast_start, fast_start
-from hulltools.comparing import statement_of
+from hulltools.comparing import differences, shared_names, statement_of
 from hulltools.costs import Costs
 from hulltools.gap_parts import gap_parts
 from hulltools.settlement_rules import bill, forced_losses, paid_by_kind
 from hulltools.sweeping import without_unit
+from hulltools.outputs import Owed
 from hulltools.tables import Table
+from hulltools.zones import zones_of
 
 FOLDER = f"{EXAMPLES}/dear_schedule"
 MILLION = 10**6
@@ -241,6 +243,18 @@ class SettleZones(unittest.TestCase):
             self.assertIn(due, said)
 
 
+    def test_a_name_of_two_kinds_is_told_apart(self):
+        case = hulltools.read_case(f"{FOLDER}/case.json")
+        case.bids[0].name = "COAL"
+        zones = {"zones": {"A": {"energy": [50]}, "B": {"energy": [30]}}, "default": "B"}
+        with self.assertRaisesRegex(hulltools.HullError, '^z: the case has a thermal and a bid "COAL": say which, as th'):
+            zones_of("z", {**zones, "units": {"COAL": "A"}}, case)
+        found = zones_of("z", {**zones, "units": {"bid:COAL": "A"}}, case)
+        self.assertEqual([found.zone_of(kind, "COAL") for kind in ("thermal", "bid")], ["B", "A"])
+        with self.assertRaisesRegex(hulltools.HullError, '^z: unit "COAL" has no zone, and there is no default$'):
+            zones_of("z", {"zones": zones["zones"], "units": {"bid:COAL": "A"}}, case)
+
+
 class Compare(unittest.TestCase):
     """Statements beside examples/dear_schedule/settle.output: PEAKER 500.00 make-whole, STEEL 150.00 lost opportunity."""
 
@@ -276,6 +290,17 @@ class Compare(unittest.TestCase):
         self.assertEqual(status, 3)
         due = ["the statement hasn't STEEL", "the settlement hasn't GAS", "3 of 6 units differ, by -30.00 in sum"]
         self.assertEqual(said.splitlines(), [f"compare.py: {it}" for it in due])
+
+    def test_a_name_of_two_kinds_has_its_kind(self):
+        units = [Owed("thermal", "A", 5, 0, 5), Owed("bid", "A", 7, 0, 7), Owed("bid", "B", 9, 0, 9)]
+        shared = shared_names(units)
+        due = {"thermal:A": 5 * MILLION, "bid:A": 7 * MILLION}
+        for text in ("unit,amount\nthermal:A,5\nbid:A,7\n", "kind,unit,amount\nthermal,A,5\nbid,A,7\n"):
+            self.assertEqual(statement_of("s", text, shared=shared), due)
+        with self.assertRaisesRegex(hulltools.HullError, "^s, line 2: several kinds have a unit 'A': write it as therm"):
+            statement_of("s", "unit,amount\nA,5\n", shared=shared)
+        rows = [(it.unit, it.amount) for it in differences({"thermal:A": 5}, units, "full")]
+        self.assertEqual(rows, [("B", -9), ("bid:A", -7), ("thermal:A", 0)])
 
     def test_make_whole_alone(self):
         status, _, said = self.compare("unit,amount\nPEAKER,500\n", "--rule", "make-whole")

@@ -3,7 +3,8 @@
 usage: compare.py SETTLEMENT STATEMENT [--rule make-whole|full] [--unit COLUMN] [--amount COLUMN] [--tolerance MONEY]
 
   SETTLEMENT        a text of `hull settle` or `hull price`
-  STATEMENT         a csv with a head: a column `unit` and a column `amount` in the currency. Rows of one unit are added up
+  STATEMENT         a csv with a head: a column `unit` and a column `amount` in the currency. Rows of one unit are added up. A name that
+                    two kinds have stands as thermal:G2 in it, or beside a column `kind`
   --rule RULE       what the statement is to have: make-whole payments, or payments in full, which is taken if left out
   --unit, --amount  other names of the columns
   --tolerance MONEY a difference up to that is none; 0.01 if left out
@@ -14,7 +15,7 @@ Status 0 where no difference is above the tolerance, else 3.
 from collections.abc import Sequence
 from typing import Optional, Union, cast
 
-from ..comparing import differences, statement_of, table_of
+from ..comparing import differences, shared_names, statement_of, table_of
 from ..errors import HullError, Tell, need_output, one_line, read_bytes, run_tool
 from ..numbers import millionths, money
 from ..outputs import Report, Settlement, read_output
@@ -40,7 +41,8 @@ def body(words: Sequence[str], tell: Tell) -> int:
         text = read_bytes(given.statement, "a statement").decode("utf-8")
     except UnicodeDecodeError:
         raise HullError(f"{given.statement}: this isn't UTF-8") from None
-    rows = differences(statement_of(given.statement, text, given.unit, given.amount), units, given.rule)
+    statement = statement_of(given.statement, text, given.unit, given.amount, shared_names(units))
+    rows = differences(statement, units, given.rule)
     table_of(rows).write()
     for told, missing in (
         ("the statement hasn't", [it.unit for it in rows if it.statement is None and it.settlement]),

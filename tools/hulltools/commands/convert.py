@@ -25,6 +25,7 @@ from ..converters.csv_folder import TOOL, marked_count, names_of_files, refuse_f
 from ..converters.notes import Object
 from ..errors import (
     HullError,
+    files_at,
     need_output,
     refuse_inputs,
     refuse_twice,
@@ -61,11 +62,6 @@ def refuse_faults(review: Review, name: str) -> None:
         raise HullError(f"{name}: hull would refuse this case: {'; '.join(told[:TOLD])}{more}")
 
 
-def inputs_of(name: str) -> List[str]:
-    """The files that FROM is, so that none of them is replaced."""
-    return [os.path.join(name, it) for it in os.listdir(name)] if os.path.isdir(name) else [name]
-
-
 def body(words: Sequence[str], tell: Callable[[str], None]) -> int:
     ask = asker(TOOL, __doc__)
     for option in ("from_name", "to"):
@@ -79,7 +75,7 @@ def body(words: Sequence[str], tell: Callable[[str], None]) -> int:
         refuse_twice([name, given.left_out])  # (each alone, since links in a folder are refused)
     notes = Notes()
     case = read_form(given.from_name, notes, given.form)
-    text, inputs = case_text(case), inputs_of(given.from_name)
+    text, inputs = case_text(case), files_at(given.from_name)
     review = review_of(text)
     refuse_faults(review, shown_name(given.from_name))
     left = {given.left_out: json.dumps(notes.as_json(), ensure_ascii=False, indent=1) + "\n"} if given.left_out else {}

@@ -47,7 +47,7 @@ from ..program import Hull
 from ..provenance import refuse_changed, sums_of_files
 from ..scheduling import Made, follow, make_schedule
 from ..search_limits import SearchLimits
-from ..errors import HullError, Tell, refuse_twice, run_tool, try_output, write_whole
+from ..errors import HullError, Tell, files_at, refuse_twice, run_tool, try_output, write_whole
 from .words import MISSED_GAP, add_search_limits, asker, positive, search_limits, solver_seconds
 
 Given = Union[argparse.Namespace, SimpleNamespace]
@@ -73,6 +73,11 @@ def checked_case(hull: Hull, name: str) -> Case:
     return read_case(name)
 
 
+def inputs_of(given: Given) -> list[str]:
+    """What is read, and so is never replaced."""
+    return [given.case, *(files_at(given.follow) if given.follow else [])]
+
+
 def followed_schedule(given: Given, case: Case, tell: Tell) -> tuple[Made, str]:
     """What follows a schedule from elsewhere, and how far it is from that."""
     followed = read_followed(given.follow, case)
@@ -81,7 +86,7 @@ def followed_schedule(given: Given, case: Case, tell: Tell) -> tuple[Made, str]:
     made = follow(case, followed, given.follow, solver_seconds(given))
     found = made.deviations
     if given.deviations:
-        write_whole(given.deviations, table_text(found), [given.case, given.follow])
+        write_whole(given.deviations, table_text(found), inputs_of(given))
     told = in_words(found, given.follow)
     if unknown := strangers(followed, case):
         told += f"; the case has no {some(unknown)}, which it names"
@@ -112,7 +117,7 @@ def make(given: Given, limits: SearchLimits, tell: Tell) -> tuple[Made, Milliont
     except HullError as why:
         raise HullError(f"no schedule is written, since what was found is refused: {why.line}") from None
     refuse_changed(before, "search and check are", "no schedule is written")
-    write_whole(given.schedule, found.schedule.text(), [given.case])
+    write_whole(given.schedule, found.schedule.text(), inputs_of(given))
     return found, cost, reached or found.told(cost)
 
 
@@ -122,7 +127,7 @@ def body(words: Sequence[str], tell: Tell) -> int:
         raise HullError("--tolerance and --deviations go with --follow")
     need_scipy()
     refuse_twice([given.schedule, given.deviations])
-    inputs = [it for it in (given.case, given.follow) if it]
+    inputs = inputs_of(given)
     for output in (given.schedule, given.deviations):
         if output:
             try_output(output, inputs)

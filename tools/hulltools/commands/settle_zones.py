@@ -3,7 +3,8 @@
 usage: settle_zones.py CASE SCHEDULE ZONES [--to FOLDER] [--currency C] [--seconds S] [--hull PROGRAM]
 
   ZONES            a JSON file: {"zones": {"NORTH": {"energy": [..], "reserve": [..]}, ..}, "units": {"GT5": "NORTH", ..}, "default": "SOUTH"}.
-                   A zone's prices are as in a prices file; a unit that isn't under `units` is of the default zone
+                   A zone's prices are as in a prices file; a unit that isn't under `units` is of the default zone. A name that two
+                   kinds have stands there as thermal:GT5, renewable:GT5 or bid:GT5
   --to FOLDER      units.csv and the settlement of each zone are written there, together, with files.sha256, which has their sums; what this tool
                    wrote there before is replaced, and a file of another's that has such a name is refused. If left out, the table is printed
   --currency C     what money is in, for the heads of the table

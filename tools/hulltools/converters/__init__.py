@@ -77,6 +77,23 @@ def form_of(value: Object, name: str) -> str:
     raise HullError(f"{name}: it is no case of hull, UnitCommitment.jl or EGRET: name its form by --from")
 
 
+# What is noted where a limit of a start or a stop is above what the ramp leaves, by the keys of both.
+EDGES = {
+    ("ramp_startup_limit", "ramp_up_limit"): "starts: power above the least is held by ramp_up_limit there too",
+    ("ramp_shutdown_limit", "ramp_down_limit"): "stops: power above the least is held by ramp_down_limit there too",
+}
+
+
+def with_edges_noted(case: Object, notes: Notes) -> Object:
+    """The case; ramps of `hull` bind at starts and stops, where those of other programs leave them to limits of their own."""
+    for name, unit in case["thermal_generators"].items():
+        least, most = unit["power_output_minimum"], unit["power_output_maximum"]
+        for (limit, ramp), text in EDGES.items():
+            if min(unit[limit], most) > least + unit[ramp]:
+                notes.changed(text, name)
+    return case
+
+
 def read_form(name: str, notes: Notes, form: Optional[str] = None) -> Object:
     """The case of a file or folder, with notes of what isn't in it. A file is read once, since it may be a pipe."""
     if form is None and os.path.isdir(name):
@@ -84,13 +101,15 @@ def read_form(name: str, notes: Notes, form: Optional[str] = None) -> Object:
     if form == "csv":
         return csv_folder.read_csv(name, notes)
     if form == "pypsa":
-        return pypsa.read_pypsa(name, notes)
+        return with_edges_noted(pypsa.read_pypsa(name, notes), notes)
     data = unpacked(name)
     if form == "hull":
         return read_hull(data, name, notes)
     value = json_of(data, shown_name(name))
     form = form or form_of(value, shown_name(name))
-    return read_hull(data, name, notes) if form == "hull" else JSON_FORMS[form](value, notes)
+    if form == "hull":
+        return read_hull(data, name, notes)
+    return with_edges_noted(JSON_FORMS[form](value, notes), notes)
 
 
 __all__ = ["FORMS", "Notes", "read_form"]

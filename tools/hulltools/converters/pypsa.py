@@ -196,7 +196,11 @@ class Network:
         what, varying = f'generator "{name}", {key}', self.varying[key]
         if name in varying:
             return self.numbers(f"generators-{key}.csv", name, varying[name], what)
-        return [number(self.generators[name].get(key, "") or default, what) or Decimal(0)] * self.periods
+        text = self.generators[name].get(key, "")
+        found = number(text, what)
+        if found is None and text.strip():
+            self.notes.assumed(f"{key} that is nan: {default} is taken", name)
+        return [Decimal(default) if found is None else found] * self.periods
 
     def value(self, name: str, key: str) -> Optional[Decimal]:
         return number(self.generators[name].get(key, ""), f'generator "{name}", {key}')
