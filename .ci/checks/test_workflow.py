@@ -254,17 +254,25 @@ class Misfortunes(Workflow):
         self.assertNotIn("Snakefile", said)
 
     def test_processors_that_snakemake_would_not_see_are_refused(self) -> None:
-        """It looks in its words for `-c` and `-j` alone, and takes the profile's number where it finds `-c999`."""
+        """On one machine it heeds -c and --cores alone, as words of their own, and else takes the profile's number."""
         self.days("first")
-        words = [SNAKEMAKE or "", "-s", f"{ROOT}/workflow/Snakefile", "--profile", f"{PROFILES}/here", "-n"]
-        refused = {"-c999": "-c999: Snakemake would use ", "-j999": "-j999: Snakemake would take the number "}
-        for more in ["-c999"], ["-j999"], ["-c", "999"], ["--cores=999"]:
-            refusal = refused.get(more[0], "")
-            ran = subprocess.run(
-                words + more, cwd=self.study, env=self.env, stdin=subprocess.DEVNULL, capture_output=True, text=True
+        words = [SNAKEMAKE or "", "-s", f"{ROOT}/workflow/Snakefile", "--profile", f"{PROFILES}/here"]
+
+        def run_with(*more: str) -> Any:
+            how: Any = {"cwd": self.study, "env": self.env, "stdin": subprocess.DEVNULL, "text": True}
+            return subprocess.run([*words, *more], capture_output=True, **how)
+
+        for more in ["-n", "-c", "999"], ["-n", "--cores=999"], ["-n", "-j", "999"], ["--list"]:
+            ran = run_with(*more)
+            self.assertEqual(ran.returncode, 0, ran.stderr)
+        for more in ["-c999"], ["-kc999"], ["-j999"], ["-j", "999"], ["-pj999"], ["--jobs", "999"], ["--jobs=999"]:
+            ran = run_with(*more)
+            said = ran.stderr.splitlines()[-1]
+            self.assertEqual(
+                (ran.returncode, said.split(" processors")[1:]), (1, [", as the profile says: write -c 999"])
             )
-            self.assertEqual(ran.returncode, 1 if refusal else 0, more)
-            self.assertEqual(ran.stderr.startswith(refusal) and ran.stderr.endswith(" 999\n"), bool(refusal))
+            self.assertTrue(said.startswith(f"{' '.join(more)}: Snakemake would use "), said)
+        self.assertNotIn("results", os.listdir(self.study))
 
     def test_a_full_disk(self) -> None:
         """A disk of 256 KB where root may mount one, and else a stand-in: no file of more than 50,000 bytes can be written."""

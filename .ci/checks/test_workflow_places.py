@@ -284,6 +284,8 @@ class Words(Workflow):
         self.assertEqual(self.refusal(list=["lmp"]), "list: no such setting; is lists meant?")
         self.assertEqual(self.refusal(zzz=1), "zzz: no such setting")
         self.assertEqual(self.refusal(lists="lmp"), "lists: a list is due, in brackets: lists=[lmp]")
+        self.assertEqual(self.refusal(python="/none/py"), "python: /none/py: there is no such program")
+        self.assertEqual(self.refusal(results="-r"), "results: -r: write it as ./-r")
 
     def test_a_folder_with_a_dot_is_no_day(self) -> None:
         days = script("days")
@@ -292,6 +294,22 @@ class Words(Workflow):
                 os.mkdir(f"{room}/{name}")
             found = days.days_of(days.settings_from({"days": room}))
             self.assertEqual([day.name for day in found], ["2026-01-01", "_x"])
+
+    def test_a_day_that_is_a_link_to_nothing_is_left(self) -> None:
+        """As where it lies on a disk that isn't mounted now."""
+        days, plan = script("days"), script("plan")
+        with tempfile.TemporaryDirectory() as room:
+            os.symlink("/none/here", f"{room}/2026-01-01")
+            found = plan.plan_of(days.settings_from({"days": room, "results": f"{room}/../none"}))
+            self.assertEqual(found.refused, {"2026-01-01": "there is no such folder"})
+
+    def test_results_of_a_day_never_lie_where_the_days_are(self) -> None:
+        days, plan = script("days"), script("plan")
+        with tempfile.TemporaryDirectory() as room:
+            os.makedirs(f"{room}/days/days")
+            write(f"{room}/days/days/case.json", "{}")
+            found = plan.plan_of(days.settings_from({"days": f"{room}/days", "results": room}))
+            self.assertEqual(found.refused, {"days": "its results would lie where the days are"})
 
     def test_words_of_the_command_line(self) -> None:
         self.days("2026.1", "2026.10")

@@ -10,7 +10,7 @@ from .cases import Bid, Case, Factor, Renewable, Thermal
 from .errors import HullError, is_tool_at_work, one_line
 from .json_texts import json_text
 from .numbers import Kilowatts, Millionths, decimal_text
-from .options import hint_of, is_flag, is_list, member, told_value
+from .options import hint_of, is_flag, is_list, is_plain, member, told_value
 
 
 def megawatts(number: int) -> Decimal:
@@ -68,7 +68,7 @@ def times(numbers: Iterable[int], factor: Fraction) -> list[int]:
 def factor_of(number: Factor, what: str) -> Fraction:
     """A factor as it is written: 1.01 is 101/100."""
     try:
-        found = Fraction(-1) if is_flag(number) else Fraction(str(number))
+        found = Fraction(str(number)) if is_plain(number) and not is_flag(number) else Fraction(-1)
     except (ValueError, ZeroDivisionError):
         found = Fraction(-1)
     if found < 0:

@@ -87,6 +87,9 @@ def need_whole(where: str, numbers: Iterator[Found], unit: Optional[str] = None)
 
 def need_names(case: Case) -> None:
     """Refuses a case in which two units of a kind have one name: its file would have the last of them alone."""
+    for kind, units in (("thermal", case.thermal), ("renewable", case.renewable), ("bids", case.bids)):
+        if not is_list(units):
+            raise HullError(f"the case given: {kind} is {told_value(units)}: a list is due")
     seen: set[tuple[str, str]] = set()
     for kind, unit in case.units:
         if not isinstance(unit.name, str):

@@ -21,10 +21,15 @@ Mark = dict[str, object]
 KEY_BYTES, MOST_BYTES = 32, 1 << 20
 
 
+def state_folder() -> str:
+    """Where what is the user's own lies. A name from the folder at hand is none of these: anybody may have made that."""
+    named = os.environ.get("XDG_STATE_HOME", "")
+    return named if os.path.isabs(named) else os.path.join(os.path.expanduser("~"), ".local", "state")
+
+
 def key_file() -> str:
     """Where the user's key lies: beside the marks of the workflow."""
-    state = os.environ.get("XDG_STATE_HOME") or os.path.join(os.path.expanduser("~"), ".local", "state")
-    return os.path.join(state, "hull", "key")
+    return os.path.join(state_folder(), "hull", "key")
 
 
 def read_key(place: str) -> Optional[bytes]:

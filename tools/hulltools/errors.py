@@ -11,7 +11,7 @@ import subprocess
 import sys
 import tempfile
 import threading
-from collections.abc import Callable, Iterator, Sequence
+from collections.abc import Callable, Iterator, Mapping, Sequence
 from dataclasses import dataclass
 from types import FrameType
 from typing import Any, BinaryIO, Optional, Union, cast
@@ -499,10 +499,14 @@ def write_whole(name: Name, content: Union[str, bytes], inputs: Sequence[str] = 
     write_together({os.fspath(name): content}, inputs, follow_links=True)
 
 
-def write_together(files: dict[str, Union[str, bytes]], inputs: Sequence[str] = (), follow_links: bool = False) -> None:
-    """Writes files, by name, so that all of them appear or none does, and none over one of the inputs.
+@contextlib.contextmanager
+def written_beside(
+    files: Mapping[str, Union[str, bytes]], inputs: Sequence[str] = (), follow_links: bool = False
+) -> Iterator[None]:
+    """Writes files, by name, beside their places, which they take together once the block has ended well; none over one of the inputs.
 
-    A link is replaced, since what is in a folder may be somebody else's; one that the user has named is to be followed.
+    A link is replaced, since what is in a folder may be somebody else's; one that the user has named is to be followed. What has no place
+    to be taken, as a pipe, is written before the block.
     """
     for name in files:
         refuse_inputs(name, inputs)
@@ -517,10 +521,19 @@ def write_together(files: dict[str, Union[str, bytes]], inputs: Sequence[str] = 
         for name in (it for it in contents if it not in parts):
             with told_with(name):
                 write_on(stream_at(name) or name, contents[name])
+        yield
         place_all(list(parts.values()))
     finally:
         for part in parts.values():
             part.drop()
+
+
+def write_together(
+    files: Mapping[str, Union[str, bytes]], inputs: Sequence[str] = (), follow_links: bool = False
+) -> None:
+    """Writes files, by name, so that all of them appear or none does, as `written_beside` says."""
+    with written_beside(files, inputs, follow_links):
+        pass
 
 
 def place_all(parts: list[Part]) -> None:

@@ -39,10 +39,17 @@ def whole_option(name: str, value: Any, least: int, most: int) -> int:
     return found
 
 
+def is_plain(value: object) -> bool:
+    """Whether a text is no number that only Python reads as one: 1_5 is hardly meant to be 15."""
+    return not isinstance(value, (bytes, bytearray)) and (
+        not isinstance(value, str) or (value.isascii() and "_" not in value)
+    )
+
+
 def float_of(value: Any) -> Optional[float]:
     """A value as a floating number, or None where it is no finite one."""
     try:
-        found = math.nan if is_flag(value) else float(value)
+        found = float(value) if is_plain(value) and not is_flag(value) else math.nan
     except (OverflowError, TypeError, ValueError):
         return None
     return found if math.isfinite(found) else None

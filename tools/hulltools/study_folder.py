@@ -197,6 +197,8 @@ class StudyFolder:
     replaces_links = False  # (also one that no run noted)
 
     def __init__(self, folder: str, inputs: Sequence[str] = (), tool: str = STUDY, keeps_changed: bool = False) -> None:
+        if not folder:
+            raise HullError(f"a {kind_of_run(tool)} needs a folder's name: write . for this one")
         self.inputs = [it for it in inputs if it]
         self.tool, self.kind, self.keeps_changed = tool, kind_of_run(tool), keeps_changed
         self.named, self.folder = folder, os.path.realpath(folder)

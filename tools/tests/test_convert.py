@@ -197,8 +197,9 @@ class Csv(WithRoom):
             self.convert(case, f"{self.room}/{to}", "--left-out", left, status=1)
             self.assertFalse(os.path.exists(left), to)
         for to in ("x.json", "csv"):
-            self.convert(case, f"{self.room}/{to}", "--left-out", f"{self.room}/nodir/left.json", status=1)
-            self.assertFalse(os.path.exists(f"{self.room}/{to}"))
+            for name in (f"{self.room}/nodir/left.json", "/dev/full"):
+                self.convert(case, f"{self.room}/{to}", "--left-out", name, status=1)
+                self.assertFalse(os.path.exists(f"{self.room}/{to}"))
             self.convert(case, f"{self.room}/{to}", "--left-out", left)
             self.assertTrue(os.path.exists(left) and os.path.exists(f"{self.room}/{to}"))
             os.remove(left)
@@ -807,7 +808,9 @@ class Others(WithRoom):
     def test_a_share_of_pypsa_that_is_nan_is_told(self) -> None:
         told, _ = self.small_network("name,bus,p_nom,p_max_pu\ng,b,10,nan\nh,b,10,\ni,b,10,0\n")
         self.assertEqual(told, "assumed: p_max_pu that is nan: 1 is taken (1: g)\n")
-        self.assertEqual([it.most for it in read_case(f"{self.room}/case.json").renewable], [[10000] * 2] * 2 + [[0] * 2])
+        self.assertEqual(
+            [it.most for it in read_case(f"{self.room}/case.json").renewable], [[10000] * 2] * 2 + [[0] * 2]
+        )
 
     def test_defaults_of_pypsa_are_not_told(self) -> None:
         head = "name,bus,p_nom,e_sum_min,e_sum_max\n"

@@ -359,7 +359,10 @@ class Follow(unittest.TestCase):
         with open(f"{network}/loads.csv", "rb") as file:
             before = file.read()
         plain = [f"{self.room}/{it}" for it in ("case.json", "made.json")]
-        for files, more in (([plain[0], f"{network}/loads.csv"], []), (plain, ["--deviations", f"{network}/loads.csv"])):
+        for files, more in (
+            ([plain[0], f"{network}/loads.csv"], []),
+            (plain, ["--deviations", f"{network}/loads.csv"]),
+        ):
             words = [*files, "--follow", network, *more, "--hull", PROGRAM]
             status, _, said = run("make_schedule.py", *words, python=self.python)
             due = f"make_schedule.py: {network}/loads.csv: this is a file to read, and it would be replaced\n"

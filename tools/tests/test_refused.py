@@ -56,6 +56,9 @@ class Prices(Refusals):
             ((20000,), None, f"the energy price is 20000: {either}"),
             (([1, -10001],), 2, f"the energy price of period 2 is -10001: {either}"),
             ((1e300,), None, f"the energy price is 1e+300: {either}"),
+            (("1_5",), None, "the energy price is 1_5: a number is due"),
+            ((b"5",), None, "the energy price is b'5': a number is due"),
+            (([1, "\u0663"],), 2, "the energy price of period 2 is \u0663: a number is due"),
         ):
             self.assertEqual(self.refused(due, hulltools.per_mwh, *given).period, period)
         self.assertEqual(hulltools.per_mwh(10000, 0).energy, 10_000_000)
@@ -744,8 +747,12 @@ class Members(Refusals):
             units.append(copy.deepcopy(units[0]))
             due = f'the case given: {kind} "{units[0].name}" stands twice'
             self.assertEqual(self.refused(due, case.text).unit, units[0].name)
+        due = "the factor of demand is 1_01: a number of at least 0 is due"
+        self.refused(due, usual()[0].scaled, demand="1_01")
         case.renewable[1].name = 7
         self.refused("the case given: a renewable has the name 7: a text is due", case.text)
+        case.bids = None
+        self.refused("the case given: bids is None: a list is due", case.text)
 
     def test_units_of_a_case(self):
         case, given = usual()

@@ -242,12 +242,13 @@ class SettleZones(unittest.TestCase):
             self.assertEqual((status, text, said.count("\n")), (1, "", 1))
             self.assertIn(due, said)
 
-
     def test_a_name_of_two_kinds_is_told_apart(self):
         case = hulltools.read_case(f"{FOLDER}/case.json")
         case.bids[0].name = "COAL"
         zones = {"zones": {"A": {"energy": [50]}, "B": {"energy": [30]}}, "default": "B"}
-        with self.assertRaisesRegex(hulltools.HullError, '^z: the case has a thermal and a bid "COAL": say which, as th'):
+        with self.assertRaisesRegex(
+            hulltools.HullError, '^z: the case has a thermal and a bid "COAL": say which, as th'
+        ):
             zones_of("z", {**zones, "units": {"COAL": "A"}}, case)
         found = zones_of("z", {**zones, "units": {"bid:COAL": "A"}}, case)
         self.assertEqual([found.zone_of(kind, "COAL") for kind in ("thermal", "bid")], ["B", "A"])
@@ -297,7 +298,9 @@ class Compare(unittest.TestCase):
         due = {"thermal:A": 5 * MILLION, "bid:A": 7 * MILLION}
         for text in ("unit,amount\nthermal:A,5\nbid:A,7\n", "kind,unit,amount\nthermal,A,5\nbid,A,7\n"):
             self.assertEqual(statement_of("s", text, shared=shared), due)
-        with self.assertRaisesRegex(hulltools.HullError, "^s, line 2: several kinds have a unit 'A': write it as therm"):
+        with self.assertRaisesRegex(
+            hulltools.HullError, "^s, line 2: several kinds have a unit 'A': write it as therm"
+        ):
             statement_of("s", "unit,amount\nA,5\n", shared=shared)
         rows = [(it.unit, it.amount) for it in differences({"thermal:A": 5}, units, "full")]
         self.assertEqual(rows, [("B", -9), ("bid:A", -7), ("thermal:A", 0)])

@@ -4,6 +4,7 @@ import json
 import os
 import re
 import shlex
+import shutil
 import sys
 from dataclasses import asdict, dataclass, field, replace
 from datetime import date
@@ -12,6 +13,7 @@ from typing import Any, Dict, List, Mapping, Optional, Tuple
 HOME = os.path.dirname(os.path.dirname(os.path.dirname(os.path.abspath(__file__))))
 sys.path.insert(0, os.path.join(HOME, "tools"))
 
+from hulltools.done_marks import state_folder  # noqa: E402
 from hulltools.errors import HullError, one_line  # noqa: E402
 from hulltools.program import default_program  # noqa: E402
 
@@ -138,8 +140,7 @@ def handed_settings() -> Optional[Settings]:
 
 def audits_folder(given: str) -> str:
     """Where the marks of right audits lie: outside of the study, since marks that came with a folder prove nothing."""
-    state = os.environ.get("XDG_STATE_HOME") or os.path.join(os.path.expanduser("~"), ".local", "state")
-    return os.path.abspath(os.path.expanduser(given)) if given else os.path.join(state, "hull", "audits")
+    return os.path.abspath(os.path.expanduser(given)) if given else os.path.join(state_folder(), "hull", "audits")
 
 
 def settings_from(config: Mapping[str, Any]) -> Settings:
@@ -161,7 +162,7 @@ def settings_from(config: Mapping[str, Any]) -> Settings:
         report=truth("report", config.get("report", True)),
         audit=truth("audit", config.get("audit", True)),
         program=program_of(text_in("program", config)),
-        python=text_in("python", config) or sys.executable,
+        python=python_of(text_in("python", config)),
         words={step: words_in(key, config) for step, key in words.items()},
     )
 
@@ -205,7 +206,9 @@ def text_in(key: str, config: Mapping[str, Any]) -> str:
 
 def folder_in(key: str, config: Mapping[str, Any]) -> str:
     """A folder's name, with one slash where several stand, and none at its end: Snakemake compares names as they are written."""
-    name = text_in(key, config) or key
+    name = os.path.expanduser(text_in(key, config) or key)
+    if name.startswith("-"):
+        raise HullError(f"{key}: {one_line(name)}: write it as ./{one_line(name)}")
     if "{" in name or "}" in name:
         raise HullError(f"{key}: {one_line(name)}: Snakemake takes braces for its own: name a folder without them")
     return re.sub("/+", "/", name.rstrip("/") or "/")
@@ -225,6 +228,14 @@ def program_of(given: str) -> str:
     if not given:
         return default_program()
     return os.path.abspath(os.path.expanduser(given)) if "/" in given else given
+
+
+def python_of(given: str) -> str:
+    """The Python of the tools, which is to be there; this one where none is given."""
+    python = os.path.expanduser(given) or sys.executable
+    if not shutil.which(python):
+        raise HullError(f"python: {one_line(given)}: there is no such program")
+    return python
 
 
 def refusal_of_name(name: str) -> Optional[str]:
@@ -284,7 +295,9 @@ def days_of(settings: Settings) -> List[Day]:
     names = settings.only
     if names is None:
         try:
-            named = (entry.name for entry in os.scandir(settings.days) if entry.is_dir())
+            # (a link to a folder that isn't there now, as on another disk, is a day that is left)
+            entries = (it for it in os.scandir(settings.days) if it.is_dir() or not os.path.exists(it.path))
+            named = (entry.name for entry in entries)
             names = sorted(name for name in named if not name.startswith("."))  # (editors and disks keep such folders)
         except OSError as error:
             raise HullError(f"{one_line(settings.days)}: {error.strerror}") from None

@@ -39,6 +39,10 @@ def why_not_begun(day: Day) -> Optional[str]:
         return why
     if not os.path.isdir(day.given):
         return "there is no such folder"
+    if not os.access(day.given, os.R_OK | os.X_OK):
+        return "its folder may not be read"
+    if os.path.join(os.path.realpath(day.settings.days), "").startswith(os.path.join(os.path.realpath(day.folder), "")):
+        return "its results would lie where the days are"
     if not os.path.isfile(day.path("case")):
         return "no case.json"
     for what in ("schedule", REPORT):

@@ -5,7 +5,7 @@ import re
 import subprocess
 import sys
 from types import FrameType
-from typing import Any, Callable, Iterator, Optional, TypeVar
+from typing import Any, Callable, Iterator, List, Optional, Tuple, TypeVar
 
 from contents import HIDDEN, refuse_links, write_whole
 from days import Day, Settings
@@ -21,26 +21,47 @@ def is_main(workflow: Any) -> bool:
     return getattr(mode, "value", mode) == 0
 
 
+# What Snakemake is asked for where it runs nothing, by the names of its arguments.
+ASKED = (
+    "dryrun dag rulegraph filegraph d3dag list list_target_rules lint summary detailed_summary print_compilation report archive "
+    "list_version_changes list_code_changes list_input_changes list_params_changes list_untracked list_changes list_rules "
+    "unlock cleanup_metadata cleanup_shadow containerize"
+).split()
+
+
 def is_dry() -> bool:
-    """Whether Snakemake is only to say what it would do, as its calls have it: it doesn't tell the Snakefile."""
+    """Whether Snakemake is only to say something, as its calls have it: it doesn't tell the Snakefile."""
     frame: Optional[FrameType] = sys._getframe()
     while frame is not None:
-        if str(frame.f_globals.get("__name__")).split(".")[0] == "snakemake":
-            found = frame.f_locals.get("dryrun", getattr(frame.f_locals.get("args"), "dryrun", None))
-            if isinstance(found, bool):
-                return found
+        asked = frame.f_locals.get("args")
+        if str(frame.f_globals.get("__name__")).split(".")[0] == "snakemake" and hasattr(asked, "dryrun"):
+            return any(getattr(asked, name, None) for name in ASKED)
         frame = frame.f_back
     return False
 
 
+# Words that say how many processors or jobs, as Snakemake takes them: `-c 2`, `--cores=2`, `-kj2`.
+COUNT = re.compile(r"(?:-[a-zA-Z]*(?P<letter>[cj])|--(?P<name>cores?|jobs)(?=[= ]))[= ]?(?P<number>[0-9]+)")
+
+
+def asked_counts(words: List[str]) -> Iterator[Tuple[str, str, int]]:
+    """The words of a call that say how many processors (c) or jobs (j), each as it is written and with its number."""
+    for word, after in zip(words, [*words[1:], ""]):
+        for written in (word, f"{word} {after}"):
+            found = COUNT.fullmatch(written)
+            if found:
+                yield written, found["letter"] or found["name"][0], int(found["number"])
+
+
 def refuse_unheard_processors(workflow: Any) -> None:
-    """Refuses `-c2` and `-j2` where a profile says that number too: Snakemake sees only `-c 2` then, and takes the profile's."""
+    """Refuses a number of processors that a profile has Snakemake pass over: on one machine it heeds `-c 2` and `--cores=2` alone."""
     taken = getattr(workflow, "global_resources", {}).get("_cores")
-    for word in sys.argv[1:]:
-        if re.fullmatch("-c[0-9]+", word) and taken not in (None, int(word[2:])):
-            raise HullError(f"{word}: Snakemake would use {taken} processors, as the profile says: write -c {word[2:]}")
-        if re.fullmatch("-j[0-9]+", word) and any(it.split("=")[0] == "--profile" for it in sys.argv):
-            raise HullError(f"{word}: Snakemake would take the number of the profile: write -j {word[2:]}")
+    has_profile = "SNAKEMAKE_PROFILE" in os.environ or any(it.split("=")[0] == "--profile" for it in sys.argv)
+    for word, letter, number in asked_counts(sys.argv[1:]):
+        if taken not in (None, number) and not (letter == "j" and is_dry()):
+            raise HullError(f"{word}: Snakemake would use {taken} processors, as the profile says: write -c {number}")
+        if taken is None and has_profile and letter == "j" and re.fullmatch("-[a-zA-Z]+[0-9]+", word):
+            raise HullError(f"{word}: Snakemake would take the number of the profile: write -j {number}")
 
 
 def links_below(folder: str) -> Iterator[str]:
@@ -127,4 +148,7 @@ def summary(settings: Settings, scripts: str) -> None:
     (Whether those that lie there are this run's, no time of a file says: another one may have written them meanwhile, or dated them.)
     """
     words = [settings.python, os.path.join(scripts, "summary.py"), "--settings", settings_file(settings)]
-    subprocess.run(words, stdin=subprocess.DEVNULL)
+    try:
+        subprocess.run(words, stdin=subprocess.DEVNULL)
+    except OSError as error:
+        print(f"no table is made: {one_line(settings.python)}: {error.strerror}", file=sys.stderr, flush=True)

@@ -32,9 +32,8 @@ from ..errors import (
     run_tool,
     shown_name,
     told_with,
-    try_output,
     write_together,
-    write_whole,
+    written_beside,
 )
 from ..lint import Review, look
 from ..lint_findings import Level
@@ -89,14 +88,11 @@ def body(words: Sequence[str], tell: Callable[[str], None]) -> int:
 
 
 def write_folder(to: str, case: Object, inputs: List[str], left: Dict[str, str]) -> None:
-    """Writes the CSV files, and what was left out behind them, whose file is tried before."""
+    """Writes the CSV files, and the file of what was left out, together."""
     refuse_inputs(to, inputs)
     refuse_files(to, inputs)
-    for name in left:
-        try_output(name, inputs)
-    write_csv(to, case, inputs)
-    for name, content in left.items():
-        write_whole(name, content, inputs)
+    with written_beside(left, inputs, follow_links=True):
+        write_csv(to, case, inputs)
 
 
 def tell_oddities(to: str, case: Object, review: Review, tell: Callable[[str], None]) -> None:

@@ -36,7 +36,7 @@ TOOL, TABLE = "settle_zones.py", "units.csv"
 
 
 def file_of(zone: str) -> str:
-    return "".join(it if it.isalnum() or it in "-_" else "_" for it in zone)
+    return "".join(it if it.isascii() and it.isalnum() or it in "-_" else "_" for it in zone[:100])
 
 
 def body(words: Sequence[str], tell: Tell) -> None:
@@ -46,10 +46,10 @@ def body(words: Sequence[str], tell: Tell) -> None:
     ask.add_argument("--currency", default="")
     add_seconds(ask)
     given = ask.parse_args(words)
-    if not given.to:
+    if given.to is None:
         need_output()
     hull, inputs = Hull(given.hull, tell, given.seconds), [given.case, given.schedule, given.zones]
-    if given.to:
+    if given.to is not None:
         TablesFolder(given.to, inputs, TOOL).refuse([TABLE])
     hull.check(given.case, given.schedule)
     case = read_case(given.case)
@@ -62,7 +62,7 @@ def body(words: Sequence[str], tell: Tell) -> None:
 
     zonal = settle_zones(settle, case, read_schedule(given.schedule, case), read_zones(given.zones, case))
     table = zonal_table(zonal, given.currency)
-    if not given.to:
+    if given.to is None:
         table.write()
         return
     files: dict[str, Union[str, bytes]] = {TABLE: table.text()}

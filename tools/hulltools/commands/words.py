@@ -2,7 +2,6 @@
 from __future__ import annotations
 
 import argparse
-import math
 import os
 import re
 from datetime import datetime
@@ -13,7 +12,7 @@ from typing import NoReturn, Optional, TypeVar, Union
 from ..fast_start import FastStart
 from ..numbers import millionths
 from ..errors import Tell, told_with
-from ..options import MOST_SECONDS
+from ..options import MOST_SECONDS, float_of, is_plain
 from ..outputs import ROUNDS, WITHIN
 from ..prices import Prices
 from ..search_limits import MOST_NODES, SECONDS, SearchLimits
@@ -56,8 +55,8 @@ def within(number: Range, least: Range, most: Range) -> Range:
 
 def positive(text: str) -> float:
     """A number of the command line that is at least 0."""
-    number = float(text)
-    if not 0 <= number < math.inf:
+    number = float_of(text)
+    if number is None or number < 0:
         raise ValueError(text)
     return number
 
@@ -71,12 +70,12 @@ def status_of(prices: Prices, tell: Tell) -> int:
 
 def count(text: str) -> int:
     """A whole number of the command line that is at least 1."""
-    return within(int(text), 1, MOST_NODES)
+    return within(int(text if is_plain(text) else ""), 1, MOST_NODES)
 
 
 def seconds(text: str) -> float:
     """A limit of time in seconds."""
-    return within(float(text), 0, MOST_SECONDS)
+    return within(positive(text), 0, MOST_SECONDS)
 
 
 def hours(text: str) -> Fraction:

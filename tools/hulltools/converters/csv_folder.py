@@ -257,6 +257,8 @@ def csv_texts(case: Object) -> Dict[str, str]:
     if "demand_bids" in case:
         tables["bids.csv"] = []
     for file, (name, *numbers) in rows_to_write(case):
+        if not name:
+            raise HullError("a unit whose name is empty has no place in CSV files: give it a name")
         tables.setdefault(file, []).append([str(told_apart(name)), *numbers])
     lines = {file: [",".join(map(cell_text, row)) for row in (COLUMNS[file], *tables[file])] for file in tables}
     return {file: "\n".join([*rows, ""]) for file, rows in lines.items()}

@@ -131,6 +131,8 @@ class Model:
         least, most = (
             series(values(unit.take(key, 0)), self.periods, f'generator "{name}", {key}') for key in ("p_min", "p_max")
         )
+        if unit.value.get("p_max") is None:
+            raise HullError(f'generator "{name}": there is no p_max')
         return {"power_output_minimum": least, "power_output_maximum": most}
 
     def number(self, unit: Taken, name: str, key: str, pick: Callable[..., Decimal] = first) -> Optional[Decimal]:

@@ -178,7 +178,7 @@ class Network:
             powers = self.load(name, row, varying)
             sign = number(row.get("sign", "-1"), f'load "{name}", sign')
             for t, power in enumerate(powers):
-                total[t] += power * (1 if sign is None or sign < 0 else -1)
+                total[t] -= power * (Decimal(-1) if sign is None else sign)
         lists_out_negative(total, "loads")
         return total
 
