@@ -173,7 +173,7 @@ module _ (g : ThermalUnit) (π : PriceLists) (limits : ℕ → ℤ) (unit : IsTh
         elim (s.begun) [
           | inl begun ↦
               let j = go g π f s.other t s.going.function d s.value unit order begun within
-                  running_spell.1.frontier s.there
+              running_spell.1.frontier s.there
               dispatch in
               record {
                 other = s.other;
