@@ -152,7 +152,7 @@ pub fn check_report<R: Threads + Wait + Sync>(
         report,
     };
     match check_opening_lines(&audited) {
-        Ok(_) => audit_by_recomputed_rows(rt, alloc, &audited, benches),
+        Ok(()) => audit_by_recomputed_rows(rt, alloc, &audited, benches),
         Err(wrong) => Ok(Audit::Wrong { line: wrong.line }),
     }
 }

@@ -29,16 +29,17 @@ pub enum Audit {
     Wrong { line: u32 },
 }
 
-/// The first of the lines before the number of proposals that isn't right.
-pub fn check_opening_lines(audited: &Audited<'_>) -> Result<u32, WrongLine>
-    ensures right { IfOk result (λ next. HasRightOpening audited.now) }
+/// Looks at the lines before the number of proposals; the first that isn't right is the error.
+pub fn check_opening_lines(audited: &Audited<'_>) -> Result<(), WrongLine>
+    ensures right { IfOk result (λ done. HasRightOpening audited.now) }
     ensures wrong { IfErr result (λ wrong. IsWrongAt audited.now wrong.line
         × (IsRight audited.now → ⊥)) }
 {
     text_determines_the_report();
     one_report_is_right();
     right_reports_exist();
-    compare_first_six_lines(audited.case, audited.cost, audited.report)
+    compare_first_six_lines(audited.case, audited.cost, audited.report)?;
+    Ok(())
 }
 
 /// What the rows tell of a report whose first six lines are right. They are the run, up to one row
