@@ -1,5 +1,6 @@
 """Amounts by unit of a statement beside those of a settlement."""
 import re
+from collections import Counter
 from dataclasses import dataclass
 from decimal import Decimal, InvalidOperation
 from typing import Collection, Dict, List, Optional, Set
@@ -40,8 +41,7 @@ def amount_of(text: str, where: str) -> Millionths:
 
 def shared_names(units: List[Owed]) -> Set[str]:
     """The names that several kinds have: by these alone no unit is known."""
-    names = [unit.name for unit in units]
-    return {it for it in names if names.count(it) > 1} if len(set(names)) < len(names) else set()
+    return {name for name, count in Counter(unit.name for unit in units).items() if count > 1}
 
 
 def key_of(row: Dict[str, str], unit: str, shared: Collection[str], where: str) -> str:

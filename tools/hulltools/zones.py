@@ -43,6 +43,15 @@ class Zones(FieldsAlone):
         return self.units.get(f"{kind}:{name}", self.units.get(name, self.default or ""))
 
 
+def kinds_by_name(case: Case) -> Dict[str, List[str]]:
+    """The kinds of the units that a name stands for, which may have the kind in front, as thermal:G2."""
+    found: Dict[str, List[str]] = {}
+    for kind, unit in case.units:
+        for name in (unit.name, f"{kind}:{unit.name}"):
+            found.setdefault(name, []).append(kind)
+    return found
+
+
 def zones_of(name: Name, value: Any, case: Case) -> Zones:
     """The zones of a JSON value, which has a zone for each unit of the case."""
     if not isinstance(value, dict) or not isinstance(value.get("zones"), dict) or not value["zones"]:
@@ -57,8 +66,9 @@ def zones_of(name: Name, value: Any, case: Case) -> Zones:
         zone: prices_within(f"{name}, zone {one_line(zone)}", given, case.periods)
         for zone, given in value["zones"].items()
     }
+    kinds_of = kinds_by_name(case)
     for unit, zone in units.items():
-        kinds = [kind for kind, it in case.units if unit in (it.name, f"{kind}:{it.name}")]
+        kinds = kinds_of.get(unit, [])
         if not kinds:
             raise HullError(f'{name}: the case has no unit "{one_line(unit)}"')
         if len(kinds) > 1:
