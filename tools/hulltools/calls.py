@@ -7,6 +7,7 @@ each step of a solver, 0 to 2,000,000.
 from __future__ import annotations
 
 import contextlib
+import csv
 import io
 import os
 import re
@@ -106,7 +107,11 @@ def follow_schedule(
     need_scipy()
     read, said = as_case(case), in_words_of_a_call(tell)
     followed, name = as_followed(powers, read)
-    for names, is_so in ((free_units(followed, read), "are free"), (strangers(followed, read), "aren't in the case")):
+    for names, is_so in (
+        (free_units(followed, read), "are free"),
+        (followed.guessed, "have no on flags, and are off where the power is 0"),
+        (strangers(followed, read), "aren't in the case"),
+    ):
         if names:
             said(f"{name}: {some(names)} {is_so}")
     with told_to(tell):
@@ -225,10 +230,14 @@ def told_of_a_call() -> Iterator[None]:
 
 
 def word_of(key: str, value: object) -> str:
-    """The value of an option as a word; a list of names has commas between them."""
+    """The value of an option as a word; a list of names has commas between them, and is a row of a csv where these are units."""
     if not isinstance(value, LISTS):
         return str(value)
     names = [str(name) for name in value]
+    if key == "fast_start":
+        row = io.StringIO()
+        csv.writer(row).writerow(names)
+        return row.getvalue().removesuffix("\r\n")
     wrong = next((name for name in names if "," in name), None)
     if wrong is not None:
         raise HullError(f"{key} has {told_value(wrong)}: a name in this list has no comma")

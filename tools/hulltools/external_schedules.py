@@ -50,6 +50,9 @@ class Followed:
     power: Dict[str, List[float]] = field(default_factory=dict)
     reserve: Dict[str, List[float]] = field(default_factory=dict)
     kinds: Dict[str, str] = field(default_factory=dict)
+    guessed: List[str] = field(
+        default_factory=list
+    )  # units without on flags that are taken as off where they give nothing, and could be on
 
     @property
     def names(self) -> Set[str]:
@@ -460,6 +463,8 @@ def with_flags(found: Followed, case: Case, name: str, hint: str = "") -> Follow
         refuse_no_flag(found, unit.name, name)
         if unit.name not in found.on and unit.name in found.power:
             found.on[unit.name] = [float(power > 1e-6 or unit.must_run) for power in found.power[unit.name]]
+            if not unit.least and not all(found.on[unit.name]):
+                found.guessed.append(unit.name)
         if unit.name not in found.names:
             raise HullError(f'{name}: it has no rows of thermal unit "{one_line(unit.name)}"', unit=unit.name)
         if unit.name not in found.on:

@@ -326,6 +326,52 @@ class Follow(unittest.TestCase):
         )
         self.assertEqual(ran.returncode, 0, ran.stdout)
 
+    def test_columns_that_pypsa_leaves_out_have_its_defaults(self) -> None:
+        """A unit that stays on at 0, to save a start, and one that never gives anything."""
+        folder = f"{self.room}/network"
+        os.makedirs(folder)
+        head = "name p_nom committable p_min_pu marginal_cost start_up_cost active".split()
+        units = [
+            ["A", 100, True, 0.3, 20, "", ""],
+            ["B", 50, True, "", 50, 1000, ""],
+            ["SHED", 500, "", "", 3000, "", ""],
+        ]
+        units.append(["OLD", 10, True, "", 1, "", False])
+        other_forms.write_table(f"{folder}/generators.csv", [head, *units])
+        demand, powers = [120, 90, 90, 120], [[100, 20], [90, 0], [90, 0], [100, 20]]
+        for name, columns, rows in (
+            ("snapshots", ["objective"], [[1.0]] * 4),
+            ("loads-p_set", ["L"], [[it] for it in demand]),
+            ("generators-p", ["A", "B"], powers),
+        ):
+            table = [[f"h{t}", *row] for t, row in enumerate(rows)]
+            other_forms.write_table(f"{folder}/{name}.csv", [["snapshot", *columns], *table])
+        other_forms.write_table(f"{folder}/loads.csv", [["name", "bus"], ["L", "b"]])
+        self.assertEqual(run("convert.py", folder, f"{self.room}/pypsa.json")[0], 0)
+        status, said = self.follow("network", case="pypsa.json")
+        self.assertEqual((status, "powers are those of network\n" in said, "OLD" in said), (0, True, False), said)
+        self.assertEqual(
+            {name: it["on"] for name, it in self.made()["thermal"].items()}, dict.fromkeys(["A", "B", "SHED"], [1] * 4)
+        )
+
+    def test_flags_that_are_guessed_are_told(self) -> None:
+        def bare(plan: Dict[str, Any]) -> None:
+            for row in plan["thermal"].values():
+                del row["on"]
+
+        case = market.case()
+        off = next(name for name, row in self.plan["thermal"].items() if 0 in row["on"])
+        for least, is_told in ((None, False), (0, True)):
+            if least is not None:
+                unit = case["thermal_generators"][off]
+                unit["power_output_minimum"] = unit["piecewise_production"][0]["mw"] = least
+            with open(f"{self.room}/{least}.json", "w", encoding="utf-8") as file:
+                file.write(market.text(case))
+            other_forms.write_json(f"{self.room}/plan.json", self.megawatts(bare))
+            status, said = self.follow("plan.json", case=f"{least}.json")
+            due = f"make_schedule.py: plan.json has no on flags of {off}: off is taken where the power is 0\n"
+            self.assertEqual((status, due in said), (0, is_told), said)
+
     def test_commitments_that_no_unit_can_keep(self) -> None:
         """The rule and the unit are named, whatever the powers are."""
 

@@ -208,6 +208,9 @@ class Network:
     def flag(self, name: str, key: str) -> bool:
         return is_true(self.generators[name].get(key, ""), f'generator "{name}", {key}')
 
+    def is_active(self, name: str) -> bool:
+        return not self.generators[name].get("active", "") or self.flag(name, "active")
+
     def size(self, name: str) -> Decimal:
         """What a generator can give at most, in MW."""
         found = self.value(name, "p_nom")
@@ -223,9 +226,8 @@ class Network:
 
     def add_unit(self, case: Object, name: str) -> None:
         """Committable units are thermal; so are others with a cost, or whose power may rise only; the rest is renewable."""
-        row = self.generators[name]
         self.drop_columns(name)
-        if row.get("active", "") and not self.flag(name, "active"):
+        if not self.is_active(name):
             self.notes.left_out("generators that aren't active", name)
             return
         if self.flag(name, "p_nom_extendable"):
@@ -361,6 +363,14 @@ def read_pypsa(folder: str, notes: Notes) -> Object:
 
 
 def solution(folder: str) -> Tuple[Dict[str, List[str]], Dict[str, List[str]]]:
-    """Powers and states of a solved network by the generators' names."""
+    """Powers and states of a solved network by the generators' names; no powers where there is no table of them.
+
+    PyPSA leaves columns out that have its default in each snapshot: a power of 0, and a state of 1.
+    """
     network = Network(folder, Notes())
-    return network.columns("generators-p.csv"), network.columns("generators-status.csv")
+    powers, states = network.columns("generators-p.csv"), network.columns("generators-status.csv")
+    for name in filter(network.is_active, network.generators) if powers else ():
+        powers.setdefault(name, ["0"] * network.periods)
+        if network.flag(name, "committable"):
+            states.setdefault(name, ["1"] * network.periods)
+    return powers, states
