@@ -3,7 +3,7 @@ import re
 from collections import Counter
 from dataclasses import dataclass
 from decimal import Decimal, InvalidOperation
-from typing import Collection, Dict, List, Optional, Set
+from typing import Dict, List, Mapping, Optional, Sequence
 
 from .errors import HullError, named_rows, one_line, refuse_line_end
 from .numbers import Millionths
@@ -39,26 +39,35 @@ def amount_of(text: str, where: str) -> Millionths:
     return Millionths(int((number * 10**6).to_integral_value()))
 
 
-def shared_names(units: List[Owed]) -> Set[str]:
-    """The names that several kinds have: by these alone no unit is known."""
-    return {name for name, count in Counter(unit.name for unit in units).items() if count > 1}
+def kinds_of_names(units: Sequence[Owed]) -> Counter[str]:
+    """How many kinds have a unit of a name: by a name that several have no unit is known."""
+    return Counter(unit.name for unit in units)
 
 
-def key_of(row: Dict[str, str], unit: str, shared: Collection[str], where: str) -> str:
-    """The name of a row's unit, or its kind and name as thermal:G2 where several kinds have the name."""
+def key_of(cell: str, kind: str, known: Mapping[str, int], where: str) -> str:
+    """The name of a row's unit, or its kind and name as thermal:G2 where several kinds have the name.
+
+    Spaces around a name are left out where no unit has it with them.
+    """
     # (tables of this package tell names of a spreadsheet's formulas apart)
-    name = as_it_was(row[unit].strip())
-    if name not in shared:
+    name = as_it_was(cell)
+    if name not in known:
+        name = as_it_was(cell.strip())
+    if known.get(name, 0) < 2:
         return name
-    if not row.get("kind", "").strip():
+    if not kind.strip():
         raise HullError(f"{where}: several kinds have a unit {one_line(name)!r}: write it as thermal:{one_line(name)}")
-    return f"{row['kind'].strip()}:{name}"
+    return f"{kind.strip()}:{name}"
 
 
 def statement_of(
-    name: str, text: str, unit: str = "unit", amount: str = "amount", shared: Collection[str] = ()
+    name: str, text: str, units: Sequence[Owed] = (), unit: str = "unit", amount: str = "amount"
 ) -> Dict[str, Millionths]:
-    """The amounts by unit of a statement with these columns; what stands in several rows of one unit is added up."""
+    """The amounts by unit of a statement with these columns; what stands in several rows of one unit is added up.
+
+    `units` are those of the settlement that it is of.
+    """
+    known = kinds_of_names(units)
     columns, rows = named_rows(text.removeprefix("\ufeff"), name)
     missing = [it for it in (unit, amount) if it not in columns]
     if missing:
@@ -67,16 +76,17 @@ def statement_of(
     for line, row in rows:
         for column in (it for it in columns if it != unit):
             refuse_line_end(row[column], f"{name}, line {line}")
-        key = key_of(row, unit, shared, f"{name}, line {line}")
+        key = key_of(row[unit], row.get("kind", ""), known, f"{name}, line {line}")
         found[key] = Millionths(found.get(key, 0) + amount_of(row[amount], f"{name}, line {line}"))
     return found
 
 
 def differences(statement: Dict[str, Millionths], units: List[Owed], rule: str) -> List[Difference]:
     """Every unit of either, the largest difference first."""
-    shared = shared_names(units)
+    known = kinds_of_names(units)
     settled = {
-        f"{owed.kind}:{owed.name}" if owed.name in shared else owed.name: Millionths(paid(owed, rule)) for owed in units
+        f"{owed.kind}:{owed.name}" if known[owed.name] > 1 else owed.name: Millionths(paid(owed, rule))
+        for owed in units
     }
     names = [*settled, *(name for name in statement if name not in settled)]
     found = [Difference(name, statement.get(name), settled.get(name)) for name in names]

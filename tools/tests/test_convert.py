@@ -480,6 +480,17 @@ class Others(WithRoom):
             self.assertEqual(case["demand"][0], market.case()["demand"][0] + 70 + is_there)
             self.assertEqual("left out: generators that aren't in service (1: GT5)\n" in told, not is_there)
 
+    def test_lists_that_are_not_over_the_periods(self) -> None:
+        for form, key, item in (
+            (other_forms.unit_commitment_jl, "Production cost curve ($)", [[100] * 23, 200]),
+            (other_forms.unit_commitment_jl, "Ramp up limit (MW)", [50] * 25),
+            (other_forms.egret, "p_max", other_forms.over_time([])),
+        ):
+            value = form()
+            units = value["Generators"] if "Generators" in value else value["elements"]["generator"]
+            units["GT5"][key] = item
+            self.assertRegex(self.refused_value(value), r"GT5, .*: 24 numbers are due, and (23|25|0) are found\n\Z")
+
     def test_a_time_step_of_nothing(self) -> None:
         value = other_forms.unit_commitment_jl()
         value["Parameters"]["Time step (min)"] = 0

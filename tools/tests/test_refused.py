@@ -458,6 +458,8 @@ class Words(Refusals):
     def test_lists_are_words(self):
         options = {"skip": ["elmp", "relaxation"], "fast_start": ("G1",), "search": True, "title": None, "zones": []}
         self.assertEqual(calls.words_of(options), ["--skip=elmp,relaxation", "--fast-start=G1", "--search"])
+        names = calls.words_of({"fast_start": ["A", "B, old", '"C"']})
+        self.assertEqual(names, ['--fast-start=A,"B, old","""C"""'])
         due = "skip has a,b: a name in this list has no comma"
         self.refused(due, calls.words_of, {"skip": ["a,b"]})
 

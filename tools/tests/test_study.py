@@ -15,7 +15,8 @@ import hulltools
 from hulltools.cash_flows import total, unit_flows, uplift_by_period
 from hulltools.clock import Clock
 from hulltools.commands.words import add_fast_start, fast_start
-from hulltools.comparing import differences, shared_names, statement_of
+from hulltools.comparing import differences, statement_of
+from hulltools.day_lengths import changed_day, clock_change
 from hulltools.costs import Costs
 from hulltools.gap_parts import gap_parts
 from hulltools.settlement_rules import bill, forced_losses, paid_by_kind
@@ -83,7 +84,7 @@ class Clocks(unittest.TestCase):
 
     def test_where_clocks_change_no_hour_is_guessed(self):
         day = datetime(2026, 10, 25)
-        for hours, periods in ((1, 25), (None, 23), (Fraction(1, 4), 100)):
+        for hours, periods in ((1, 25), (None, 23), (Fraction(1, 4), 100), (1, 73), (Fraction(1, 2), 94), (1, 167)):
             clock = Clock(hours and Fraction(hours), day)
             self.assertEqual((set(clock.times(periods)), clock.labels(periods)[-1]), ({""}, str(periods)))
             self.assertEqual(clock.axis(periods), "period")
@@ -104,6 +105,28 @@ class Clocks(unittest.TestCase):
             Clock().need_length(periods)
         Clock(None, day).need_length(48)
 
+    def test_each_number_of_periods_is_of_one_stretch_of_days(self):
+        """Against a list of all days: 1 to 7 of them, in hours and their halves and quarters, an hour longer or shorter."""
+        due = {
+            (24 * days + hour) * parts: (days, parts, hour > 0)
+            for days in range(1, 8)
+            for parts in (1, 2, 4)
+            for hour in (1, -1)
+        }
+        self.assertEqual(len(due), 7 * 3 * 2)
+        for periods in range(1, 170):
+            found = clock_change(periods)
+            self.assertEqual(found and (found.days, found.parts, found.is_longer), due.get(periods))
+        told = {
+            25: "a day of 25 hours, on which clocks go back",
+            92: "a day of 23 hours in quarter hours, on which clocks go forward",
+            98: "two days of half hours, on one of which clocks go back",
+            71: "three days of hours, on one of which clocks go forward",
+            167: "a week of hours, in which clocks go forward",
+        }
+        for periods, text in told.items():
+            self.assertEqual(changed_day(periods), text)
+
     def test_nothing_is_known(self):
         clock = Clock()
         self.assertEqual((clock.price_text(7500), clock.price_unit), ("7.500", "per MW and period"))
@@ -122,7 +145,12 @@ class Heads(unittest.TestCase):
 
 class FastUnits(unittest.TestCase):
     def test_an_empty_text_names_no_unit(self):
-        for words, names in ((["--fast-start", ""], ()), (["--fast-start", "A,B"], ("A", "B")), ([], None)):
+        for words, names in (
+            (["--fast-start", ""], ()),
+            (["--fast-start", "A,B"], ("A", "B")),
+            (["--fast-start", 'A,"B, old","""C"""'], ("A", "B, old", '"C"')),
+            ([], None),
+        ):
             ask = argparse.ArgumentParser()
             add_fast_start(ask)
             self.assertEqual(fast_start(ask.parse_args(words)).names, names)
@@ -294,16 +322,20 @@ class Compare(unittest.TestCase):
 
     def test_a_name_of_two_kinds_has_its_kind(self):
         units = [Owed("thermal", "A", 5, 0, 5), Owed("bid", "A", 7, 0, 7), Owed("bid", "B", 9, 0, 9)]
-        shared = shared_names(units)
         due = {"thermal:A": 5 * MILLION, "bid:A": 7 * MILLION}
         for text in ("unit,amount\nthermal:A,5\nbid:A,7\n", "kind,unit,amount\nthermal,A,5\nbid,A,7\n"):
-            self.assertEqual(statement_of("s", text, shared=shared), due)
+            self.assertEqual(statement_of("s", text, units), due)
         with self.assertRaisesRegex(
             hulltools.HullError, "^s, line 2: several kinds have a unit 'A': write it as therm"
         ):
-            statement_of("s", "unit,amount\nA,5\n", shared=shared)
+            statement_of("s", "unit,amount\nA,5\n", units)
         rows = [(it.unit, it.amount) for it in differences({"thermal:A": 5}, units, "full")]
         self.assertEqual(rows, [("B", -9), ("bid:A", -7), ("thermal:A", 0)])
+
+    def test_spaces_around_a_name_are_left_out_where_no_unit_has_them(self):
+        units = [Owed("thermal", "A", 5, 0, 5), Owed("thermal", "A ", 7, 0, 7), Owed("thermal", "B", 9, 0, 9)]
+        found = statement_of("s", "unit,amount\nA,5\nA ,7\n B ,9\n", units)
+        self.assertEqual(found, {"A": 5 * MILLION, "A ": 7 * MILLION, "B": 9 * MILLION})
 
     def test_make_whole_alone(self):
         status, _, said = self.compare("unit,amount\nPEAKER,500\n", "--rule", "make-whole")

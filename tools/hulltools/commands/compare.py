@@ -15,7 +15,7 @@ Status 0 where no difference is above the tolerance, else 3.
 from collections.abc import Sequence
 from typing import Optional, Union, cast
 
-from ..comparing import differences, shared_names, statement_of, table_of
+from ..comparing import differences, statement_of, table_of
 from ..errors import HullError, Tell, need_output, one_line, read_bytes, run_tool
 from ..numbers import millionths, money
 from ..outputs import Report, Settlement, read_output
@@ -41,7 +41,7 @@ def body(words: Sequence[str], tell: Tell) -> int:
         text = read_bytes(given.statement, "a statement").decode("utf-8")
     except UnicodeDecodeError:
         raise HullError(f"{given.statement}: this isn't UTF-8") from None
-    statement = statement_of(given.statement, text, given.unit, given.amount, shared_names(units))
+    statement = statement_of(given.statement, text, units, given.unit, given.amount)
     rows = differences(statement, units, given.rule)
     table_of(rows).write()
     for told, missing in (

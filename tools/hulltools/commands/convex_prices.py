@@ -7,7 +7,8 @@ usage: convex_prices.py CASE SCHEDULE PRICES MIXTURE [--within MONEY] [--rounds 
   --within MONEY   the search ends at a distance of at most that, in the currency; 1.00 if left out
   --rounds N       it ends after so many rounds at most; 150 if left out
   --seconds S      the program is ended after so many seconds, at most 2000000, and nothing is written then; if left out,
-                   the rounds alone limit its work
+                   the rounds alone limit its work. Ctrl-C ends it in the same way: an earlier end that leaves
+                   prices is one by MONEY or N
   --best-schedule S2  the best schedule known: the last line then tells the schedule's part of the gap from the duality gap
   --hull PROGRAM   the program; the launcher of this repository if left out
 

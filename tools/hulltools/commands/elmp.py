@@ -4,7 +4,7 @@ usage: elmp.py CASE SCHEDULE PRICES [--fast-start NAMES | --fast-start-up N --fa
                [--seconds S] [--hull PROGRAM]
 
   PRICES              where the prices are written
-  --fast-start NAMES  the fast-start units, with commas between
+  --fast-start NAMES  the fast-start units, with commas between; a name that has one stands in double quotes, "A,B"
   --fast-start-up N, --fast-start-cost MONEY  in place of names: the units of a minimum up time of at most N periods (1 if left out) whose
                       dearest start costs at most MONEY (whatever it costs, if left out)
   --online-only       a fast-start unit stays off where the schedule has it off

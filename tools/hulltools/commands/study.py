@@ -18,7 +18,7 @@ usage: study.py CASE FOLDER [--schedule S] [--best-schedule S2 | --no-schedule] 
   --search            the lists of `hull price` too, a subgradient search with 100 and with up to 1,000 proposals
   --skip LISTS        leave these lists out, with commas between: lmp, relaxation, elmp, convex_hull, subgradient_100, subgradient_1000,
                       zonal, or the NAME of a file; as often as wanted
-  --fast-start NAMES  the fast-start units of the list ELMP, with commas between
+  --fast-start NAMES  the fast-start units of the list ELMP, with commas between; a name that has one stands in double quotes, "A,B"
   --fast-start-up N, --fast-start-cost MONEY  in place of names: the units of a minimum up time of at most N periods (1 if left out) whose
                       dearest start costs at most MONEY (whatever it costs, if left out)
   --online-only       a fast-start unit stays off where the schedule has it off
@@ -27,7 +27,7 @@ usage: study.py CASE FOLDER [--schedule S] [--best-schedule S2 | --no-schedule] 
   --title, --currency  what the page is called, and what money is in
   --start TIME        when period 1 begins, as 2026-07-01T00:00, up to the year 9000; where clocks change with its offset, as 2026-10-25T00:00+02:00
   --hours-per-period H  how long a period is, as 0.25 or 1/12, from 1/3600 to 8784; prices are then told per MWh. --start
-                      takes an hour if left out, but for 46, 50, 92, 96 or 100 periods, where it is refused
+                      takes an hour if left out, but for 46, 50, 92, 94, 96, 98, 100, 142 or 146 periods, where it is refused
 
   --gap, --nodes      when a search for a schedule ends, as for make_schedule.py
   --within, --rounds  when the search of `hull convex` ends: at a distance of 1.00, or after 150 rounds, if left out

@@ -2,6 +2,7 @@
 from __future__ import annotations
 
 import argparse
+import csv
 import os
 import re
 from datetime import datetime
@@ -53,10 +54,18 @@ def within(number: Range, least: Range, most: Range) -> Range:
     return number
 
 
+def number_of(text: str) -> float:
+    """A number of the command line."""
+    number = float_of(text)
+    if number is None:
+        raise ValueError(text)
+    return number
+
+
 def positive(text: str) -> float:
     """A number of the command line that is at least 0."""
-    number = float_of(text)
-    if number is None or number < 0:
+    number = number_of(text)
+    if number < 0:
         raise ValueError(text)
     return number
 
@@ -75,7 +84,7 @@ def count(text: str) -> int:
 
 def seconds(text: str) -> float:
     """A limit of time in seconds."""
-    return within(positive(text), 0, MOST_SECONDS)
+    return within(number_of(text), 0, MOST_SECONDS)
 
 
 def hours(text: str) -> Fraction:
@@ -133,16 +142,24 @@ def search_limits(given: argparse.Namespace) -> SearchLimits:
     return SearchLimits(given.gap, given.nodes, solver_seconds(given))
 
 
+def names_of(text: str) -> list[str]:
+    """Names with commas between, as a row of a csv; an empty text has none."""
+    try:
+        rows = list(csv.reader([text], strict=True)) if text else [[]]
+    except csv.Error:
+        raise argparse.ArgumentTypeError('a name with a comma or a double quote stands as "A,B"') from None
+    return rows[0]
+
+
 def add_fast_start(ask: argparse.ArgumentParser) -> None:
     """The words that say which units are fast-start."""
-    ask.add_argument("--fast-start")
+    ask.add_argument("--fast-start", type=names_of)
     ask.add_argument("--fast-start-up", type=count, default=FastStart.most_up)
     ask.add_argument("--fast-start-cost", type=positive)
     ask.add_argument("--online-only", action="store_true")
 
 
 def fast_start(given: argparse.Namespace) -> FastStart:
-    # (an empty text names no unit: it isn't the rule)
-    names = tuple(given.fast_start.split(",")) if given.fast_start else None if given.fast_start is None else ()
+    names = None if given.fast_start is None else tuple(given.fast_start)
     cost = None if given.fast_start_cost is None else millionths(str(given.fast_start_cost))
     return FastStart(names, given.fast_start_up, cost, given.online_only)

@@ -137,7 +137,7 @@ class Model:
 
     def number(self, unit: Taken, name: str, key: str, pick: Callable[..., Decimal] = first) -> Optional[Decimal]:
         found = values(unit.take(key))
-        return None if found is None else constant(found, pick, key, self.notes, name)
+        return None if found is None else constant(found, self.periods, pick, key, self.notes, name)
 
     def thermal(self, unit: Taken, name: str) -> Object:
         least, most = self.number(unit, name, "p_min", max) or Decimal(0), self.number(unit, name, "p_max", max)

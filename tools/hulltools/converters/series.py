@@ -60,13 +60,11 @@ def series(value: Any, periods: int, what: str) -> List[Decimal]:
     return [decimal(value, what)] * periods
 
 
-def constant(value: Any, pick: Callable[[Sequence[Decimal]], Decimal], what: str, notes: Notes, name: str) -> Decimal:
-    """One number for all periods; of a list that varies the one that is picked, which is noted."""
-    if not isinstance(value, list):
-        return decimal(value, f"{name}, {what}")
-    found = [decimal(it, f"{name}, {what}") for it in value]
-    if not found:
-        raise HullError(f"{one_line(name)}, {what}: an empty list")
+def constant(
+    value: Any, periods: int, pick: Callable[[Sequence[Decimal]], Decimal], what: str, notes: Notes, name: str
+) -> Decimal:
+    """One number for all periods; of a list over them that varies the one that is picked, which is noted."""
+    found = series(value, periods, f"{name}, {what}")
     if len(set(found)) > 1:
         notes.left_out(
             f"{what} that changes over time: its {'least' if pick is min else 'greatest' if pick is max else 'first'} is taken",

@@ -152,7 +152,7 @@ class Instance:
 
         def ramp(key: str) -> Decimal:
             value = unit.take(key)
-            return limit(None if value is None else constant(value, min, key, notes, name), most)
+            return limit(None if value is None else constant(value, self.periods, min, key, notes, name), most)
 
         def time(key: str) -> int:
             return in_periods(unit.take(key, 1), self.per_hour, key, notes, name)
@@ -189,7 +189,7 @@ class Instance:
         rows = unit.take(key)
         if not isinstance(rows, list) or not rows:
             raise HullError(f'generator "{name}": {key} isn\'t a list of numbers')
-        return [constant(it, first, key, self.notes, name) for it in rows]
+        return [constant(it, self.periods, first, key, self.notes, name) for it in rows]
 
     def starts(self, unit: Taken, name: str) -> List[Object]:
         costs = unit.list("Startup costs ($)", [0])
