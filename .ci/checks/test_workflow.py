@@ -338,6 +338,20 @@ class Contents(Workflow):
         self.ends_well(report_words="--proposals 1")
         self.assertEqual(len([call for call in self.calls() if call.startswith("price")]), len(names), "other words")
 
+    def test_a_touched_file_behind_a_link_makes_nothing_anew(self) -> None:
+        """A large one, of which Snakemake looks at the time alone; a time to come is none of a change either."""
+        self.days("one")
+        name, store = f"{self.study}/days/one/case.json", f"{self.room}/store.json"
+        write(store, read(name).decode() + " " * 200_000)
+        os.unlink(name)
+        os.symlink(store, name)
+        self.ends_well()
+        self.calls()
+        for when in (time.time(), time.time() + 200 * 86400):
+            os.utime(store, (when, when))
+            self.ends_well()
+            self.assertEqual(self.calls(), [])
+
     def test_no_old_result_lies_beside_a_refusal(self) -> None:
         self.days("one")
         self.ends_well()

@@ -89,10 +89,15 @@ def time_of(name: str) -> float:
         return 0.0
 
 
+def input_time_of(name: str) -> float:
+    """The time of an input, or that of what it leads to, if it is a link and this is later: Snakemake goes by both."""
+    return max(time_of(name), time_of(os.path.realpath(name)))
+
+
 def settle_times(day: Day, step: str) -> None:
     """Gives the step's files a time that isn't before those of its inputs, since they are made of what the inputs hold."""
-    inputs = [day.path(what) for what in STEPS[step].takes]
-    when = max(time_of(name) for name in (*inputs, flag_name(day.settings.results, day.name, step)))
+    inputs = [input_time_of(day.path(what)) for what in STEPS[step].takes]
+    when = max(*inputs, time_of(flag_name(day.settings.results, day.name, step)))
     for name in (day.made(file) for file in STEPS[step].makes):
         if time_of(name) < when:
             os.utime(name, (when, when), follow_symlinks=False)

@@ -114,10 +114,18 @@ def certified_least(day: Day) -> int:
     return read_output(day.made("convex_hull.certificate.txt"), ("hull-certificate 1",)).least
 
 
+def barred_folders(day: Day) -> List[str]:
+    """The day's folders of results that are there, and that this user may not write."""
+    folders = (day.folder, day.made(HIDDEN), day.made("log"))
+    return [it for it in folders if os.path.isdir(it) and not os.access(it, os.W_OK | os.X_OK)]
+
+
 def add_day(summary: Summary, day: Day, steps: List[str]) -> None:
     """Adds the price lists of a day that are of the files that lie there, and what is left of it."""
     why = {step: why_left(day, step) for step in steps}
     summary.left += [(day.name, f"{step}: {told}") for step, told in why.items() if told is not None]
+    if any(why.values()):
+        summary.left += [(day.name, f"{one_line(it)} may not be written by this user") for it in barred_folders(day)]
     made = [step for step in steps if why[step] is None]
     found = [priced(day, name, day.made(f"{name}.settlement.txt")) for name in LISTS if name in made]
     if REPORT in made or day.is_given(REPORT) and is_marked(day):
