@@ -5,7 +5,7 @@ from decimal import Decimal
 from fractions import Fraction
 from typing import Any, Optional
 
-from .case_forms import need_form
+from .case_forms import with_plain_numbers
 from .cases import Bid, Case, Factor, Renewable, Thermal
 from .errors import HullError, is_tool_at_work, one_line
 from .json_texts import json_text
@@ -47,7 +47,7 @@ def bid_fields(bid: Bid) -> dict[str, Any]:
 
 def text_of(case: Case) -> str:
     """The file of a case, which reads as the same case. Refuses numbers that aren't whole."""
-    need_form(case)
+    case = with_plain_numbers(case)
     found: dict[str, Any] = {"time_periods": case.periods}
     found.update(demand=[megawatts(it) for it in case.demand], reserves=[megawatts(it) for it in case.reserves])
     found["thermal_generators"] = {unit.name: thermal_fields(unit) for unit in case.thermal}

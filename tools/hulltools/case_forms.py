@@ -7,12 +7,13 @@ from typing import Any, Optional, TypeVar
 
 from .cases import Bid, Case, Renewable, Thermal
 from .errors import HullError, one_line
-from .options import counted, is_list, is_whole_number, told_value
+from .json_texts import refused_as
+from .options import counted, is_flag, is_list, is_plain_whole, is_whole_number, told_value
 
 KILOWATTS, MILLIONTHS = "kilowatts", "millionths"
 PER_KILOWATT = "millionths per kilowatt"
 POWERS = ("least", "most", "ramp_up", "ramp_down", "start_limit", "stop_limit", "power0")
-COUNTS = ("must_run", "min_up", "min_down", "on0", "up0", "down0")
+COUNTS, FLAGS = ("min_up", "min_down", "up0", "down0"), ("must_run", "on0")
 Whole = TypeVar("Whole", Case, Thermal, Renewable, Bid)
 Found = tuple[str, Any, str, Optional[int]]  # a member, its number, the unit of that, and the period
 
@@ -55,6 +56,11 @@ def pairs_of(name: str, rows: Any, units: tuple[str, str], period: Optional[int]
             yield f"{name}, item {place},", number, unit, period
 
 
+def number_of_flag(flag: Any) -> Any:
+    """A flag as 0 or 1, if it is False or True; otherwise what it is."""
+    return int(flag) if is_flag(flag) else flag
+
+
 def members_of(unit: Any) -> Iterator[Found]:
     """The numbers of a unit or bid."""
     if isinstance(unit, Thermal):
@@ -62,10 +68,12 @@ def members_of(unit: Any) -> Iterator[Found]:
             yield name, getattr(unit, name), KILOWATTS, None
         for name in COUNTS:
             yield name, getattr(unit, name), "", None
+        for name in FLAGS:
+            yield name, number_of_flag(getattr(unit, name)), "", None
         yield from pairs_of("lags", unit.lags, ("", MILLIONTHS))
         yield from pairs_of("points", unit.points, (KILOWATTS, MILLIONTHS))
         for t, mark in enumerate(items_at("marks", unit.marks), 1):
-            yield f"marks of period {t}", 0 if mark is None else mark, "", t
+            yield f"marks of period {t}", 0 if mark is None else number_of_flag(mark), "", t
     elif isinstance(unit, Renewable):
         yield from by_period("least", unit.least)
         yield from by_period("most", unit.most)
@@ -102,6 +110,7 @@ def need_names(case: Case) -> None:
 LISTS: dict[type, tuple[str, ...]] = {Thermal: ("marks",), Renewable: ("least", "most"), Bid: ("blocks",)}  # by period
 
 
+@refused_as("case")
 def need_form(case: Case) -> None:
     """Refuses a number that isn't whole, as 1.5 kilowatts, a list that hasn't an item for each period, and a name that stands twice."""
 
@@ -119,21 +128,40 @@ def need_form(case: Case) -> None:
         need_lengths(where, {name: getattr(unit, name) for name in LISTS.get(type(unit), ())}, case.periods, unit.name)
 
 
-def list_of(items: Any) -> list[Any]:
-    """The items by their places; numbers, which `need_form` has found whole, are plain."""
-    return [it if it is None or is_list(it) else int(it) for it in items]
+def whole_list(items: Any) -> list[Any]:
+    return [None if it is None else int(it) for it in items]
 
 
-def unit_with_lists(holder: Whole) -> Whole:
-    """A case or a unit with lists where a script has set arrays or series; itself where it has lists."""
-    names = LISTS.get(type(holder), ("demand", "reserves"))
-    other = {name: getattr(holder, name) for name in names if not isinstance(getattr(holder, name), list)}
-    return replace(holder, **{name: list_of(items) for name, items in other.items()}) if other else holder
+def whole_pairs(rows: Any) -> list[Any]:
+    return [(int(one), int(other)) for one, other in rows]
 
 
-def with_lists(case: Case) -> Case:
-    """The case with lists where a script has set arrays or series, whose items have places and perhaps an index of their own."""
-    units: dict[str, list[Any]] = {kind: getattr(case, kind) for kind in ("thermal", "renewable", "bids")}
-    changed = {kind: [unit_with_lists(unit) for unit in given] for kind, given in units.items()}
-    same = all(new is old for kind, given in units.items() for new, old in zip(changed[kind], given))
-    return unit_with_lists(case if same else replace(case, **changed))
+def whole_members(holder: Any) -> dict[str, Any]:
+    """The numbers of a case or a unit, which `need_form` has found whole, as lists of plain ones."""
+    if isinstance(holder, Thermal):
+        numbers = {name: int(getattr(holder, name)) for name in (*POWERS, *COUNTS, *FLAGS)}
+        pairs = {name: whole_pairs(getattr(holder, name)) for name in ("lags", "points")}
+        return {**numbers, **pairs, "marks": whole_list(holder.marks)}
+    if isinstance(holder, Bid):
+        return {"blocks": [whole_pairs(blocks) for blocks in holder.blocks]}
+    if isinstance(holder, Renewable):
+        return {name: whole_list(getattr(holder, name)) for name in ("least", "most")}
+    lists = {name: whole_list(getattr(holder, name)) for name in ("demand", "reserves")}
+    return {"periods": int(holder.periods), **lists}
+
+
+def with_whole_members(holder: Whole) -> Whole:
+    changed = {name: it for name, it in whole_members(holder).items() if not is_plain_whole(getattr(holder, name))}
+    return replace(holder, **changed) if changed else holder
+
+
+def with_plain_numbers(case: Case) -> Case:
+    """The case with lists of plain whole numbers. A script may have set arrays or series, which have an index of their own, and numbers of others.
+
+    Itself where it has such already. Raises `HullError` where one isn't whole.
+    """
+    need_form(case)
+    kinds: dict[str, list[Any]] = {kind: getattr(case, kind) for kind in ("thermal", "renewable", "bids")}
+    units: dict[str, Any] = {kind: list(map(with_whole_members, given)) for kind, given in kinds.items()}
+    is_same = all(new is old for kind, given in kinds.items() for new, old in zip(units[kind], given))
+    return with_whole_members(case if is_same else replace(case, **units))

@@ -28,7 +28,7 @@ Whole = TypeVar("Whole", bound=int)
 MOST_PERIODS, MOST_OF_A_KIND, MOST_ITEMS, MOST_BLOCKS = 168, 4096, 32, 8
 
 
-@dataclass
+@dataclass(eq=False)
 class Thermal(FieldsAlone):
     """A thermal unit. `lags` are (periods, millionths), `points` (kilowatts, millionths), `marks` None, 0 or 1."""
 
@@ -79,7 +79,7 @@ class Thermal(FieldsAlone):
         return low, high
 
 
-@dataclass
+@dataclass(eq=False)
 class Renewable(FieldsAlone):
     """A renewable unit: its least and greatest power of each period, in kilowatts."""
 
@@ -88,7 +88,7 @@ class Renewable(FieldsAlone):
     most: list[Kilowatts]
 
 
-@dataclass
+@dataclass(eq=False)
 class Bid(FieldsAlone):
     """A demand bid: for each period blocks of (kilowatts, millionths per kilowatt), the dearest first."""
 
@@ -99,7 +99,7 @@ class Bid(FieldsAlone):
 Unit = Union[Thermal, Renewable, Bid]
 
 
-@dataclass(repr=False)
+@dataclass(repr=False, eq=False)
 class Case(FieldsAlone):
     """Demand and required reserve of each period in kilowatts, and the units and bids in the file's order."""
 
@@ -170,7 +170,8 @@ class Fields:
             raise self.wrong("it isn't an object")
 
     def wrong(self, what: str) -> HullError:
-        return HullError(f"{self.name}: {one_line(self.where)}: {what}")
+        where = "" if self.name == "the case given" and self.where == "the case" else f"{one_line(self.where)}: "
+        return HullError(f"{self.name}: {where}{what}")
 
     def take(self, key: str, kind: Optional[type]) -> Any:
         if key not in self.value:

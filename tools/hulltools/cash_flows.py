@@ -64,13 +64,16 @@ def flows_of(unit: Unit, plan: Plan, prices: Prices, costs: Costs) -> List[Flow]
     return [flow(-price * power, 0, -worth(unit.blocks[t], power)) for t, (price, power) in enumerate(sold)]
 
 
-@dataclass
+@dataclass(repr=False)
 class UnitFlows:
     """A unit's line of a settlement, and by period what its schedule and its best response earn and spend."""
 
     owed: Owed
     scheduled: List[Flow]
     response: List[Flow]
+
+    def __repr__(self) -> str:
+        return f"<UnitFlows {self.owed.kind} {self.owed.name!r}: periods={len(self.scheduled)}>"
 
     @property
     def payment_by_period(self) -> List[Millionths]:

@@ -261,7 +261,7 @@ def followed_frame(frame: Any, name: str, periods: int) -> Followed:
 def followed_schedule(schedule: Schedule, name: str, periods: int) -> Followed:
     """What a schedule in whole kilowatts says, in megawatts."""
     found = Followed()
-    for (kind, unit), plan in schedule.with_lists().plans.items():
+    for (kind, unit), plan in schedule.with_plain_numbers().plans.items():
         if found.kinds.setdefault(unit, kind) != kind:
             raise HullError(mixed(name, unit, found.kinds[unit], kind))
         if not len(plan.on) == len(plan.power) == len(plan.reserve) == periods:
@@ -280,7 +280,9 @@ def followed_rows(rows: Iterable[Tuple[str, Mapping[str, Any]]], name: str, peri
     for where, row in rows:
         place = add_row(cells, row, where, periods)
         if place in seen:
-            raise HullError(f"{where}: a second row of this unit and period")
+            unit, period = place
+            why = f'{where}: a second row of unit "{one_line(unit)}" and period {period}'
+            raise HullError(why, unit=unit, period=period)
         seen.add(place)
     lists = {
         what: {unit: whole_list(cells, what, unit, name, periods) for unit in by_unit}
@@ -331,7 +333,9 @@ def whole_list(cells: Cells, what: str, unit: str, name: str, periods: int) -> L
     off = {t for t, on in cells["on"].get(unit, {}).items() if on <= 0.5 and what != "on"}
     gap = next((t for t in range(1, periods + 1) if t not in found and t not in off), None)
     if gap is not None:
-        raise HullError(f'{name}: unit "{one_line(unit)}" has no {what} in period {gap}, and it has one in others')
+        is_there = any(gap in rows.get(unit, {}) for rows in cells.values())
+        why = f'{name}: unit "{one_line(unit)}" has no {what if is_there else "row"} in period {gap}, and it has one in others'
+        raise HullError(why, unit=unit, period=gap)
     return [found.get(t, 0.0) for t in range(1, periods + 1)]
 
 
@@ -406,6 +410,15 @@ def schedule_in(given: object) -> Optional[Schedule]:
     return next(kept, None)
 
 
+def need_powers(followed: Followed, case: Case, name: str) -> None:
+    """Refuses a thermal unit without powers: of a frame these most likely got lost, as in a merge by names that differ."""
+    bare = next(
+        (unit.name for unit in case.thermal if unit.name in followed.on and unit.name not in followed.power), None
+    )
+    if bare is not None:
+        raise HullError(f'{name}: it has no power of thermal unit "{one_line(bare)}"', unit=bare)
+
+
 def as_followed(given: GivenPowers, case: Case) -> Tuple[Followed, str]:
     """What a data frame, a schedule, a dict or a file says, and what an error calls it."""
     if is_name(given):
@@ -417,6 +430,7 @@ def as_followed(given: GivenPowers, case: Case) -> Tuple[Followed, str]:
         found = followed_dict(given, name, case.periods)
     elif hasattr(given, "columns") and hasattr(given, "to_dict"):
         found = followed_frame(given, name, case.periods)
+        need_powers(found, case, name)
     else:
         due = "a data frame, a schedule, a dict or a file's name is due"
         raise HullError(f"{name}: no `{type(given).__name__}` can be taken: {due}")
@@ -437,14 +451,15 @@ def most_of(unit: Unit) -> int:
 
 
 def refuse_kilowatts(followed: Followed, case: Case, name: str, hint: str) -> None:
-    """Refuses a power that is far above the most of its unit, since it is most likely in kilowatts."""
+    """Refuses a power or reserve that is far above the most of its unit, since it is most likely in kilowatts."""
     for kind, unit in case.units:
-        most = most_of(unit) / 1e3
-        for t, power in enumerate(followed.power.get(unit.name, ()), 1):
-            if most and power > KILOWATTS_FROM * most:
-                told = f"power {power:.10g} MW of {one_line(unit.name)} in period {t}, and it {'buys' if kind == 'bid' else 'gives'}"
-                why = f"{name}: {told} at most {most:g} MW: is it in kilowatts?{hint}"
-                raise HullError(why, unit=unit.name, period=t)
+        most, gives = most_of(unit) / 1e3, "buys" if kind == "bid" else "gives"
+        for what, lists in (("power", followed.power), ("reserve", followed.reserve)):
+            for t, power in enumerate(lists.get(unit.name, ()), 1):
+                if most and power > KILOWATTS_FROM * most:
+                    told = f"{what} {power:.10g} MW of {one_line(unit.name)} in period {t}, and it {gives}"
+                    why = f"{name}: {told} at most {most:g} MW: is it in kilowatts?{hint}"
+                    raise HullError(why, unit=unit.name, period=t)
 
 
 def refuse_no_flag(followed: Followed, unit: str, name: str) -> None:

@@ -10,7 +10,7 @@ from decimal import Decimal
 from fractions import Fraction
 from typing import TYPE_CHECKING, Any, Optional, Protocol, SupportsFloat, Union, cast, overload
 
-from .case_forms import need_form, with_lists
+from .case_forms import with_plain_numbers
 from .cases import Case, case_of, read_case
 from .errors import HullError, Name, one_line
 from .json_texts import STATUS, Refused, json_text, parse, refused_as
@@ -209,15 +209,17 @@ def as_case(given: GivenCase) -> Case:
         return case_of(told("case"), value_of("case", given))
     if is_name(given):
         return read_case(given)
-    found = cast(Case, object_of("case", given))
-    need_form(found)
-    return with_lists(found)
+    return with_plain_numbers(object_of("case", given))
 
 
 def as_schedule(given: GivenSchedule, case: Case) -> Schedule:
     if isinstance(given, dict):
         return schedule_of(told("schedule"), value_of("schedule", given), case)
-    return read_schedule(given, case) if is_name(given) else cast(Schedule, object_of("schedule", given)).with_lists()
+    return (
+        read_schedule(given, case)
+        if is_name(given)
+        else cast(Schedule, object_of("schedule", given)).with_plain_numbers()
+    )
 
 
 def as_prices(given: GivenPrices, case: Case) -> Prices:
@@ -228,7 +230,7 @@ def as_prices(given: GivenPrices, case: Case) -> Prices:
         return given.over(case.periods)
     if not is_name(given):
         need_periods("prices", given, case)
-        return cast(Prices, object_of("prices", given))
+        return cast(Prices, object_of("prices", given)).with_plain_numbers()
     return read_prices(given, case.periods)
 
 
@@ -260,7 +262,7 @@ def as_beside(
     if schedule is None:
         return read, None
     if not is_name(schedule) and not isinstance(schedule, dict):
-        return read, cast(Schedule, object_of("schedule", schedule)).with_lists()
+        return read, cast(Schedule, object_of("schedule", schedule)).with_plain_numbers()
     if read is None:
         raise HullError("a schedule is read with its case, which isn't given")
     return read, as_schedule(schedule, read)

@@ -5,7 +5,8 @@ import difflib
 import math
 import operator
 from collections.abc import Iterable, Mapping, Sequence, Set
-from typing import TYPE_CHECKING, Any, Optional, TypeVar
+from dataclasses import fields
+from typing import TYPE_CHECKING, Any, Optional, TypeVar, cast
 
 from .errors import HullError, one_line
 
@@ -114,15 +115,41 @@ def refuse_unknown_keys(where: str, given: object, known: Sequence[str]) -> None
             raise HullError(f"{where}: `{one_line(key)}` is no key of it: {hint_of(key, known)}")
 
 
+def is_plain_whole(value: object) -> bool:
+    """Whether it is a whole number of Python, or a list of such, and of None; a list of them may be of lists."""
+    if isinstance(value, (list, tuple)):
+        return all(map(is_plain_whole, value))
+    return value is None or type(value) is int
+
+
+def is_row(value: object) -> bool:
+    """Whether it is a list, an array or a series, and no dict and no set."""
+    return is_list(value) and not isinstance(value, (Mapping, Set))
+
+
+def are_same(one: Any, other: Any) -> bool:
+    """Whether two members are equal; lists are so item by item, since `==` of an array is none of the whole."""
+    if not is_row(one) or not is_row(other):
+        return is_row(one) == is_row(other) and bool(one == other)
+    ones, others = list(one), list(other)
+    return len(ones) == len(others) and all(map(are_same, ones, others))
+
+
 class FieldsAlone:
     """A data class of which a script may set the fields, and nothing else: another name is most likely misspelt."""
+
+    def __eq__(self, other: object) -> bool:
+        if type(other) is not type(self):
+            return NotImplemented
+        names = [field.name for field in fields(cast(Any, self)) if field.compare]
+        return all(are_same(getattr(self, name), getattr(other, name)) for name in names)
 
     if not TYPE_CHECKING:  # (a type checker would let any name be set)
 
         def __setattr__(self, name: str, value: object) -> None:
-            fields = self.__dataclass_fields__
-            if name not in fields:
-                raise HullError(f"`{type(self).__name__}` has no member `{name}` to set: {hint_of(name, fields)}")
+            known = self.__dataclass_fields__
+            if name not in known:
+                raise HullError(f"`{type(self).__name__}` has no member `{name}` to set: {hint_of(name, known)}")
             super().__setattr__(name, value)
 
 
@@ -148,6 +175,8 @@ def kind_of(members: Mapping[tuple[str, str], object], name: str, what: str) -> 
     kinds = [kind for kind, known in members if known == name]
     if len(kinds) > 1:
         raise HullError(f'{what} has a {" and a ".join(kinds)} "{told_value(name)}": give the kind before the name')
+    if not kinds and any(name == kind for kind, _ in members):
+        raise HullError(f"{what}: {name} is a kind: give a name too")
     if not kinds:
         names = [known for _, known in members]
         raise HullError(f'{what} has no unit "{told_value(name)}": {hint_of(name, names)}')

@@ -51,7 +51,7 @@ class Cut:
         return f"{self.key} of period {self.period} from {told_price(self.price)} to {told_price(self.limit)}"
 
 
-@dataclass(repr=False)
+@dataclass(repr=False, eq=False)
 class Prices(FieldsAlone, PriceSource):
     """Energy and reserve prices of each period, in millionths per kilowatt and period; `cut` says which of them stand for others."""
 
@@ -63,6 +63,7 @@ class Prices(FieldsAlone, PriceSource):
         told = f"energy={told_prices(self.energy)}, reserve={told_prices(self.reserve)}"
         return f"<Prices per MW and period: {told}>"
 
+    @refused_as("prices")
     def need_form(self) -> None:
         """Refuses what isn't a whole price within the limits for each period."""
         lengths = [len(items_of(f"the {key} prices", getattr(self, key))) for key in ("energy", "reserve")]
@@ -77,6 +78,12 @@ class Prices(FieldsAlone, PriceSource):
                 except HullError as why:
                     why.period = t
                     raise
+
+    def with_plain_numbers(self) -> "Prices":
+        """The same with lists of plain whole numbers, where a script has set arrays or series."""
+        self.need_form()
+        energy, reserve = ([MillionthsPerKilowatt(int(it)) for it in prices] for prices in (self.energy, self.reserve))
+        return Prices(energy, reserve, self.cut)
 
     @property
     def told_cut(self) -> str:
@@ -123,13 +130,13 @@ class Prices(FieldsAlone, PriceSource):
         """A row for each period, as a data frame of pandas."""
         from .tables import Table, frames_of
 
-        table = Table(["period", "energy:price", "reserve:price"], True)
-        for t, prices in enumerate(zip(self.energy, self.reserve), 1):
+        table, plain = Table(["period", "energy:price", "reserve:price"], True), self.with_plain_numbers()
+        for t, prices in enumerate(zip(plain.energy, plain.reserve), 1):
             table.add(t, *prices)
         return frames_of({"prices": table}, start, hours_per_period)["prices"]
 
 
-@dataclass(repr=False)
+@dataclass(repr=False, eq=False)
 class FlatPrices(FieldsAlone, PriceSource):
     """One energy price and one reserve price that hold in each period, in millionths per kilowatt and period."""
 
@@ -240,6 +247,21 @@ def refuse_misspelt_reserve(name: Name, value: dict[str, Any]) -> None:
     near = [] if "reserve" in value else [key for key in value if is_near(key, "reserve")]
     if near:
         raise HullError(f"{name}: `{one_line(near[0])}` is no key of it: is `reserve` meant?")
+
+
+def refusal_of_reserve(name: Name) -> Optional[HullError]:
+    """Why a prices file is refused, though the program would take it: for such a key. Of a file that can't be read the program says why."""
+    if not os.path.isfile(name) or is_text_of_hull(name):
+        return None
+    try:
+        value = read_json(name, "prices")
+    except HullError:
+        return None
+    try:
+        refuse_misspelt_reserve(name, value if isinstance(value, dict) else {})
+    except HullError as why:
+        return why
+    return None
 
 
 def is_near(key: str, known: str) -> bool:

@@ -33,7 +33,7 @@ from .inputs import (
 from .numbers import Millionths, millionths
 from .options import number_option, seconds_option, whole_option
 from .outputs import RADIUS, ROUNDS, WITHIN, Certificate, Convex, Report, Settlement, parse_output, read_priced
-from .prices import FlatPrices, Prices, is_text_of_hull
+from .prices import FlatPrices, Prices, is_text_of_hull, refusal_of_reserve
 from .progress import step
 from .refusals import Held, refusal
 
@@ -163,6 +163,8 @@ class Hull:
             for what, one in given.items():
                 if isinstance(one, FlatPrices):
                     one, unread = flat_over(one, cast(GivenCase, given["case"]))
+                if what == "prices" and is_name(one):  # (the program's own refusals come first)
+                    unread = refusal_of_reserve(one)
                 if not unread:
                     need_periods(what, one, given["case"])
                 words += [f"--{what}", files.enter_context(as_file(one, what))]

@@ -2,6 +2,7 @@
 from __future__ import annotations
 
 import json
+import os
 from collections.abc import Callable, Sequence
 from dataclasses import dataclass
 from typing import TYPE_CHECKING, Any, Optional, Union, cast
@@ -10,7 +11,7 @@ from .cases import Case, POWER, Unit
 from .json_texts import is_number, read_json, refused_as
 from .numbers import is_whole, Kilowatts
 from .errors import HullError, Name, one_line, write_whole
-from .options import FieldsAlone, is_list, is_whole_number, member, told_value
+from .options import FieldsAlone, is_flag, is_list, is_plain_whole, is_whole_number, member, told_value
 
 if TYPE_CHECKING:
     from pandas import DataFrame
@@ -20,7 +21,7 @@ if TYPE_CHECKING:
 Fault = Callable[[str], HullError]  # makes the error of a text
 
 
-@dataclass
+@dataclass(eq=False)
 class Plan(FieldsAlone):
     """What one unit or bid is to do: an on flag, a power and a reserve for each period, in kilowatts."""
 
@@ -37,12 +38,13 @@ def flat_plan(power: list[Kilowatts]) -> Plan:
 PLAN = {"on": "", "power": "kilowatts", "reserve": "kilowatts"}  # its lists, and what their numbers count
 
 
+@refused_as("schedule")
 def written(kind: str, name: str, key: str, numbers: Any) -> list[int]:
     """A list of a plan as its file has it. What a script has set may be an array, a series or whole floating numbers."""
     where, of = f'the schedule given: {kind} "{one_line(name)}": {key}', PLAN[key]
     if not is_list(numbers):
         raise HullError(f"{where} is {told_value(numbers)}: a list of a number for each period is due", unit=name)
-    found = list(numbers)
+    found = [int(number) if key == "on" and is_flag(number) else number for number in numbers]
     wrong = next((t for t, number in enumerate(found, 1) if not is_whole_number(number)), None)
     if wrong is not None:
         due = f"a whole number{' of ' * bool(of)}{of} is due"
@@ -50,7 +52,7 @@ def written(kind: str, name: str, key: str, numbers: Any) -> list[int]:
     return [int(number) for number in found]
 
 
-@dataclass(repr=False)
+@dataclass(repr=False, eq=False)
 class Schedule(FieldsAlone):
     """A plan for each unit and bid, by kind and name."""
 
@@ -64,9 +66,10 @@ class Schedule(FieldsAlone):
         """The plan of a unit or bid; a name of one kind needs no kind before it. Raises `HullError` where there is none."""
         return member(self.plans, kind, name, "the schedule")
 
-    def with_lists(self) -> Schedule:
-        """The schedule with lists where a script has set arrays or series, whose items have places and perhaps an index of their own."""
-        if all(isinstance(getattr(plan, key), list) for plan in self.plans.values() for key in PLAN):
+    def with_plain_numbers(self) -> Schedule:
+        """The schedule with lists of plain whole numbers. A script may have set arrays or series, which have an index of their own, and numbers of others."""
+        lists = [getattr(plan, key) for plan in self.plans.values() for key in PLAN]
+        if all(isinstance(it, list) and is_plain_whole(it) for it in lists):
             return self
         plans: dict[tuple[str, str], Plan] = {}
         for (kind, name), plan in self.plans.items():
@@ -90,7 +93,7 @@ class Schedule(FieldsAlone):
 
         rows = [
             (name, t, on, power / 1e3, reserve / 1e3)
-            for (_, name), plan in self.with_lists().plans.items()
+            for (_, name), plan in self.with_plain_numbers().plans.items()
             for t, (on, power, reserve) in enumerate(zip(plan.on, plan.power, plan.reserve), 1)
         ]
         return load_pandas().DataFrame(rows, columns=["unit", "period", "on", "power", "reserve"])
@@ -174,6 +177,19 @@ def schedule_of(name: Name, value: Any, case: Case) -> Schedule:
     return Schedule(plans)
 
 
+def refuse_swapped(case: Any) -> None:
+    """Refuses a schedule that is given for the case, as where the two are in the order of the other calls."""
+    value: Any = case
+    if isinstance(case, (str, os.PathLike)):
+        value = read_json(case, "a case") if os.path.isfile(case) else None
+    is_plan = isinstance(value, dict) and "thermal" in value and "time_periods" not in value
+    if is_plan or isinstance(case, Schedule):
+        what = one_line(os.fspath(case)) if isinstance(case, (str, os.PathLike)) else "the case given"
+        raise HullError(
+            f"{what}: this is a schedule. Are the two swapped? The schedule comes first here, and then its case"
+        )
+
+
 def read_schedule(name: Union[Name, dict[str, Any]], case: GivenCase) -> Schedule:
     """The schedule of a file, or of a dict as the file has it, for a case: for each unit and bid an on flag, a power and a reserve in each period, in whole kilowatts.
 
@@ -181,5 +197,9 @@ def read_schedule(name: Union[Name, dict[str, Any]], case: GivenCase) -> Schedul
     """
     from .inputs import as_case, as_schedule
 
-    read = as_case(case)
+    try:
+        read = as_case(case)
+    except HullError:
+        refuse_swapped(case)
+        raise
     return as_schedule(name, read) if isinstance(name, dict) else schedule_of(name, read_json(name, "a schedule"), read)

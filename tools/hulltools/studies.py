@@ -5,7 +5,7 @@ import contextlib
 import os
 import unicodedata
 from dataclasses import dataclass, field, replace
-from typing import TYPE_CHECKING, Callable, Dict, Iterator, List, Optional, Sequence, Set, Tuple, Union
+from typing import TYPE_CHECKING, Any, Callable, Dict, Iterator, List, Optional, Sequence, Set, Tuple, Union
 
 from .cases import Case
 from .cash_flows import UnitFlows, unit_flows
@@ -61,7 +61,7 @@ class Wanted:
     skip: Set[str] = field(default_factory=set)  # keys of lists
 
 
-@dataclass
+@dataclass(repr=False)
 class Settled:
     """A price list, its settlement, and by unit and period what is earned and spent."""
 
@@ -69,31 +69,46 @@ class Settled:
     settlement: Settlement
     flows: List[UnitFlows]
 
+    def __repr__(self) -> str:
+        return f"<Settled {self.list.name!r}: gap={self.settlement.gap}, payments={self.settlement.payments}>"
+
     @property
     def prices(self) -> Prices:
         return self.settlement.prices
 
 
 class Lists(Dict[str, Settled]):
-    """The lists of a study by key. A name is taken as `lists[name]` too; `in`, `get` and the items know keys alone."""
+    """The lists of a study by key; a name is taken in place of a key, by `in` and `get` too."""
+
+    def of_name(self, name: object) -> Optional[Settled]:
+        return next((settled for settled in self.values() if settled.list.name == name), None)
 
     def __missing__(self, name: str) -> Settled:
-        for settled in self.values():
-            if settled.list.name == name:
-                return settled
-        raise KeyError(self.why_none(name))
+        found = self.of_name(name)
+        if found is None:
+            raise KeyError(self.why_none(name))
+        return found
+
+    def __contains__(self, name: object) -> bool:
+        return super().__contains__(name) or self.of_name(name) is not None
+
+    def get(self, name: str, default: Any = None) -> Any:
+        return self[name] if name in self else default
 
     def why_none(self, name: str) -> str:
         return f"the study has no list {told_value(name)}: {hint_of(name, self)}"
 
 
-@dataclass
+@dataclass(repr=False)
 class Paid:
     """What units are paid under prices, and by unit and period what is earned and spent."""
 
     list: PriceList
     units: List[Owed]
     flows: List[UnitFlows]
+
+    def __repr__(self) -> str:
+        return f"<Paid {self.list.name!r}: units={len(self.units)}>"
 
 
 @dataclass(repr=False)
@@ -312,6 +327,7 @@ class Maker:
             study.interrupted = taken(why)
             study.missing = [it.name for it, _ in left]
             study.notes += [study.unfinished] if left else []
+        study.lists = Lists({settled.list.key: settled for settled in study.in_order()})
         return study
 
     def make_list(self, price_list: PriceList, make: Callable[[], None]) -> None:

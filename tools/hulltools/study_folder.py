@@ -25,6 +25,7 @@ from .errors import (
     NotOurs,
     heard_later,
     mode_of,
+    one_line,
     refuse_inputs,
     told_with,
     write_together,
@@ -126,7 +127,10 @@ def lock_of(folder: str, kind: str) -> Iterator[bool]:
             if handle is not None:
                 os.close(handle)
             if time.monotonic() >= until:
-                raise Kept(f"another {kind} kept this folder for {WAIT:g} s")
+                of_others = (
+                    f"; {one_line(place)} is another user's, and can go if none is at work" if handle is None else ""
+                )
+                raise Kept(f"another {kind} kept this folder for {WAIT:g} s{of_others}")
             time.sleep(TICK)
     try:
         yield is_locked

@@ -9,14 +9,14 @@ import re
 from collections.abc import Iterable, Sequence
 from datetime import datetime
 from decimal import Decimal
-from typing import TYPE_CHECKING, Any, Optional, SupportsFloat, Union
+from typing import TYPE_CHECKING, Any, Optional, SupportsFloat, Union, cast
 
 from .beside import need_beside
 from .cases import Case
 from .costs import Costs
 from .numbers import decimal_text
 from .errors import HullError, one_line
-from .options import float_of, number_option, told_value
+from .options import float_of, is_whole_number, number_option, told_value
 from .outputs import Convex, Fixed, Owed, Priced, Report, Settlement, Text
 from .schedules import Schedule
 from .telling import is_shown, write_text
@@ -61,9 +61,9 @@ class Table:
         self.rows.append([self.cell(it, unit) for it, unit in zip(cells, self.units)])
 
     def cell(self, value: Cell, unit: str) -> Cell:
-        if not isinstance(value, int) or not unit or not self.currency:
+        if not unit or not self.currency or isinstance(value, str) or not is_whole_number(value):
             return value
-        return Decimal(decimal_text(value, UNITS[unit][0]))
+        return Decimal(decimal_text(int(cast(Any, value)), UNITS[unit][0]))
 
     def text(self, names_as_they_are: bool = False, is_shown: bool = False) -> str:
         """The table as comma separated values; shown at a terminal, a text is one line of what is printable."""

@@ -20,7 +20,7 @@ if TYPE_CHECKING:
 ZONES_KEYS, PRICES_KEYS = ["zones", "units", "default"], ["energy", "reserve"]
 
 
-@dataclass
+@dataclass(eq=False)
 class Zones(FieldsAlone):
     """Price lists by zone, and the zone of each unit; `default` is the zone of those that have none.
 

@@ -145,11 +145,11 @@ class Follow(unittest.TestCase):
         for text, due in (
             ("unit,period,on,power\nG1,1,1,60,5\n", "line 2: it has more cells than the first line names columns."),
             ("unit,period,power,power\nG1,1,1,2\n", "the column 'power' stands twice"),
-            ("unit,period,power\nG1,1,1\nG1,1,2\n", "line 3: a second row of this unit and period"),
-            ("unit,period,power\nG1,1,1\nG1,01,2\n", "line 3: a second row of this unit and period"),
+            ("unit,period,power\nG1,1,1\nG1,1,2\n", 'line 3: a second row of unit "G1" and period 1'),
+            ("unit,period,power\nG1,1,1\nG1,01,2\n", 'line 3: a second row of unit "G1" and period 1'),
             (
                 "unit,period,power\nG1,1,1\nG1,2,1\nG1,4,1\n",
-                'plan.csv: unit "G1" has no power in period 3, and it has one',
+                'plan.csv: unit "G1" has no row in period 3, and it has one',
             ),
             ("unit,period,on,power\nG1,1,,1\nG1,2,1,1\n", 'plan.csv: unit "G1" has no on in period 1, and it has one'),
         ):

@@ -221,6 +221,39 @@ class Keys(Refusals):
         ):
             hulltools.settle_zones(*USUAL, zones, PROGRAM)
 
+    def test_what_is_refused_of_an_object_has_the_status_of_its_file(self):
+        case, _ = usual()
+        schedule = hulltools.read_schedule(USUAL[1], case)
+        case.demand = [8000, 8000]
+        schedule.plan("G1").power = [0.5]
+        for status, call, due in (
+            (
+                3,
+                lambda: hulltools.check(case, USUAL[1], PROGRAM),
+                "the case given: demand has 2 items, and the case 1 period",
+            ),
+            (
+                4,
+                lambda: hulltools.check(USUAL[0], schedule, PROGRAM),
+                'the schedule given: thermal "G1": power of period 1 is 0.5: a whole number of kilowatts is due',
+            ),
+            (
+                9,
+                lambda: hulltools.settle(*USUAL, hulltools.Prices([98000.5], [0]), PROGRAM),
+                "the energy price of period 1, in millionths per kilowatt, is 98000.5: "
+                "a whole number from -10,000,000 to 10,000,000 is due",
+            ),
+        ):
+            self.assertEqual(self.refused(due, call).status, status)
+
+    def test_a_schedule_in_place_of_its_case_is_told(self):
+        case, _ = usual()
+        schedule = hulltools.read_schedule(USUAL[1], case)
+        told = "this is a schedule. Are the two swapped? The schedule comes first here, and then its case"
+        for given, name in ((USUAL[1], USUAL[1]), (schedule, "the case given")):
+            self.refused(f"{name}: {told}", hulltools.read_schedule, USUAL[0], given)
+        self.refused("the case: thermal is a kind: give a name too", case.unit, kind="thermal")
+
     def test_a_prices_file_with_a_misspelt_reserve_is_refused(self):
         with tempfile.TemporaryDirectory(prefix="hull-refused-") as room:
             name = f"{room}/prices.json"
@@ -238,6 +271,7 @@ class Keys(Refusals):
                     continue
                 due = f"{name}: `{misspelt}` is no key of it: is `reserve` meant?"
                 self.assertEqual(self.refused(due, hulltools.read_prices, name).status, 9)
+                self.assertEqual(self.refused(due, hulltools.settle, *USUAL, name, PROGRAM).status, 9)
 
     def test_of_a_case_it_is_warned(self):
         _, case = usual()
@@ -325,7 +359,7 @@ class Options(Refusals):
             ((), "reserves", [float("nan")], f"reserves of period 1 is nan: {due}", None, 1),
             ((), "demand", 8000, "demand is 8000: a list is due", None, None),
             (("thermal",), "power0", 1.5, f'thermal "G1": power0 is 1.5: {due}', "G1", None),
-            (("thermal",), "on0", True, 'thermal "G1": on0 is True: a whole number is due', "G1", None),
+            (("thermal",), "on0", 0.5, 'thermal "G1": on0 is 0.5: a whole number is due', "G1", None),
             (
                 ("thermal",),
                 "points",

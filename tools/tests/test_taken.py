@@ -50,6 +50,9 @@ class Texts(unittest.TestCase):
         lists = Lists(My_prices=Settled(price_list, settlement, []))
         self.assertEqual(settled(lists["My_prices"]).units, settlement.units)
         self.assertIs(lists["My prices"], lists["My_prices"])
+        self.assertIs(lists.get("My prices"), lists["My_prices"])
+        self.assertEqual(("My prices" in lists, "My price" in lists, lists.get("My price", 5)), (True, False, 5))
+        self.assertLess(len(repr(lists)), 200)
         with self.assertRaisesRegex(KeyError, "the study has no list My price: is `My_prices` meant"):
             lists["My price"]
         self.assertEqual([text.name for text in texts_of(lists)], ["My_prices"])

@@ -9,12 +9,14 @@ import unittest
 import warnings
 from unittest import mock
 
+import numpy
 import pandas
 
 from tool import EXAMPLES, PROGRAM, ROOT
 
 import hulltools
 import hulltools.inputs
+from hulltools.external_schedules import as_followed
 
 USUAL = f"{EXAMPLES}/usual/case.json", f"{EXAMPLES}/usual/schedule.json"
 PRINTED = f"{EXAMPLES}/usual/price.output"
@@ -154,6 +156,64 @@ class Set(unittest.TestCase):
         self.assertEqual(found, due)
         frames = found.frames(case, schedule), due.frames(self.case, self.schedule)
         self.assertTrue(all(frames[0][name].equals(frames[1][name]) for name in frames[1]))
+
+    def numbers(self, value):
+        """The same numbers as NumPy has them, in lists and pairs."""
+        if isinstance(value, list):
+            return [self.numbers(it) for it in value]
+        return (
+            tuple(map(numpy.int64, value))
+            if isinstance(value, tuple)
+            else value
+            if value is None
+            else numpy.int64(value)
+        )
+
+    def test_numbers_of_numpy_and_whole_floats_are_taken_as_plain_ones(self):
+        case, schedule = copy.deepcopy(self.case), copy.deepcopy(self.schedule)
+        case.demand, case.reserves = self.numbers(case.demand), [float(it) for it in case.reserves]
+        for unit in case.thermal:
+            unit.lags, unit.marks, unit.must_run = map(self.numbers, (unit.lags, unit.marks, unit.must_run))
+            unit.points, unit.least = numpy.array(unit.points, dtype=float), float(unit.least)
+        for bid in case.bids:
+            bid.blocks = self.numbers(bid.blocks)
+        for plan in schedule.plans.values():
+            plan.on, plan.power = numpy.array(plan.on) > 0, self.numbers(plan.power)
+        self.assertEqual((hulltools.inputs.as_case(case), case), (self.case, self.case))
+        self.assertEqual(hulltools.inputs.as_schedule(schedule, case), self.schedule)
+        self.assertEqual(case.text(), self.case.text())
+        prices = hulltools.Prices(numpy.array([30_000] * 6), [numpy.int64(500)] * 6)
+        flat = hulltools.per_mwh(30, 0.5)
+        self.assertTrue(prices.frame().equals(flat.frame(periods=6)))
+        self.assertEqual(prices, flat.over(6))
+        settled = [
+            hulltools.settle(*it, hull=PROGRAM) for it in ((case, schedule, prices), (self.case, self.schedule, flat))
+        ]
+        self.assertEqual(*settled)
+        frames = settled[0].frames(case, schedule), settled[1].frames(self.case, self.schedule)
+        self.assertTrue(all(frames[0][name].equals(frames[1][name]) for name in frames[1]))
+        tables = settled[0].tables(case, schedule), settled[1].tables(self.case, self.schedule)
+        self.assertEqual(*({name: it.rows for name, it in table.items()} for table in tables))
+        one = {"zones": {"all": prices}, "default": "all"}
+        zonal = [
+            hulltools.settle_zones(*it, one, hull=PROGRAM) for it in ((case, schedule), (self.case, self.schedule))
+        ]
+        self.assertTrue(zonal[0].frame().equals(zonal[1].frame()))
+
+    def test_cases_and_prices_with_other_numbers_are_not_equal(self):
+        case = copy.deepcopy(self.case)
+        case.demand = numpy.array(case.demand)
+        self.assertEqual(case, self.case)
+        for other in (numpy.array(case.demand) + 1, case.demand[:-1], None, 5):
+            case.demand = other
+            self.assertNotEqual(case, self.case)
+
+    def test_a_thermal_unit_without_powers_is_no_part_of_a_frame(self):
+        powers = self.schedule.frame()
+        powers.loc[powers["unit"] == "G1", "power"] = numpy.nan
+        with self.assertRaisesRegex(hulltools.HullError, 'it has no power of thermal unit "G1"$') as found:
+            as_followed(powers, self.case)
+        self.assertEqual(found.exception.unit, "G1")
 
 
 class Page(unittest.TestCase):

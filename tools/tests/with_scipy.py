@@ -661,7 +661,7 @@ class Calls(unittest.TestCase):
             ({"thermal": {"COAL": {"pwoer": [1]}}}, r"thermal: COAL: `pwoer` is no key of it: is `power` meant\?"),
             (powers.assign(period=1.5), "row 1: no row of unit, period from 1 to 1, and numbers"),
             (powers.assign(period=[1, 2, 1, 1]), "row 2: period 2 isn't one of 1 to 1"),
-            (powers.assign(unit="COAL"), "row 2: a second row of this unit and period"),
+            (powers.assign(unit="COAL"), 'row 2: a second row of unit "COAL" and period 1'),
             (powers.replace("COAL", "COAl"), r"the case has no unit COAl: is `COAL` meant\?"),
             (powers[:3], 'it has no rows of thermal unit "BLOCK"'),
             (powers[["unit", "period", "on", "on", "power"]], "the column 'on' stands twice"),

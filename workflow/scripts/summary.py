@@ -20,7 +20,7 @@ from days import FILES, LISTS, REPORT, STEPS, Day, Settings, audits_folder, hand
 from plan import plan_of
 from runs import refuse_audits_inside, settings_file
 from hulltools.commands.words import Asker
-from hulltools.errors import HullError, one_line
+from hulltools.errors import HullError, need_output, one_line
 from hulltools.outputs import read_output
 from hulltools.tables import Table
 from hulltools.telling import write_text
@@ -192,6 +192,7 @@ def tell(settings: Settings, text: str) -> None:
     count = len(text.splitlines())
     told = "nothing is left" if not count else f"{count} line{'s' * (count > 1)} of what is left"
     where = os.path.join(settings.results, "")
+    need_output()
     write_text(f"{text}{one_line(where)}table.csv, page.html and left.txt are written; {told}\n")
 
 
