@@ -186,18 +186,15 @@ class Set(unittest.TestCase):
         flat = hulltools.per_mwh(30, 0.5)
         self.assertTrue(prices.frame().equals(flat.frame(periods=6)))
         self.assertEqual(prices, flat.over(6))
-        settled = [
-            hulltools.settle(*it, hull=PROGRAM) for it in ((case, schedule, prices), (self.case, self.schedule, flat))
-        ]
+        given, plain = (case, schedule), (self.case, self.schedule)
+        settled = hulltools.settle(*given, prices, hull=PROGRAM), hulltools.settle(*plain, flat, hull=PROGRAM)
         self.assertEqual(*settled)
-        frames = settled[0].frames(case, schedule), settled[1].frames(self.case, self.schedule)
+        frames = settled[0].frames(*given), settled[1].frames(*plain)
         self.assertTrue(all(frames[0][name].equals(frames[1][name]) for name in frames[1]))
-        tables = settled[0].tables(case, schedule), settled[1].tables(self.case, self.schedule)
+        tables = settled[0].tables(*given), settled[1].tables(*plain)
         self.assertEqual(*({name: it.rows for name, it in table.items()} for table in tables))
         one = {"zones": {"all": prices}, "default": "all"}
-        zonal = [
-            hulltools.settle_zones(*it, one, hull=PROGRAM) for it in ((case, schedule), (self.case, self.schedule))
-        ]
+        zonal = [hulltools.settle_zones(*both, one, hull=PROGRAM) for both in (given, plain)]
         self.assertTrue(zonal[0].frame().equals(zonal[1].frame()))
 
     def test_cases_and_prices_with_other_numbers_are_not_equal(self):
