@@ -262,7 +262,7 @@ class Misfortunes(Workflow):
             how: Any = {"cwd": self.study, "env": self.env, "stdin": subprocess.DEVNULL, "text": True}
             return subprocess.run([*words, *more], capture_output=True, **how)
 
-        for more in ["-n", "-c", "999"], ["-n", "--cores=999"], ["-n", "-j", "999"], ["--list"]:
+        for more in ["-n", "-c", "999"], ["-n", "--cores=999"], ["-n", "-j", "999"], ["--list"], ["--list-conda-envs"]:
             ran = run_with(*more)
             self.assertEqual(ran.returncode, 0, ran.stderr)
         for more in ["-c999"], ["-kc999"], ["-j999"], ["-j", "999"], ["-pj999"], ["--jobs", "999"], ["--jobs=999"]:

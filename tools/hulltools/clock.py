@@ -1,4 +1,5 @@
 """Periods as people name them, and prices per MWh where the length of a period is known."""
+import re
 from dataclasses import dataclass
 from datetime import datetime, timedelta
 from decimal import Decimal
@@ -64,11 +65,14 @@ class Clock:
         if self.start is None or self.why_unknown(periods):
             return [""] * periods
         length = timedelta(seconds=float((self.hours or 1) * 3600))
-        return [(self.start + t * length).isoformat(timespec="minutes") for t in range(periods)]
+        begins = [self.start + t * length for t in range(periods)]
+        is_exact = not any(time.second or time.microsecond for time in begins)
+        part = "minutes" if is_exact else "seconds" if not any(time.microsecond for time in begins) else "milliseconds"
+        return [time.isoformat(timespec=part) for time in begins]
 
     def labels(self, periods: int) -> List[str]:
         """What stands below a period in a picture: its time of day, or its number."""
-        return [it.split("T")[1][:5] if it else str(t) for t, it in enumerate(self.times(periods), 1)]
+        return [re.split("[-+]", it.split("T")[1])[0] if it else str(t) for t, it in enumerate(self.times(periods), 1)]
 
     def rows(self, periods: int) -> List[str]:
         """What stands beside a period in a table for people."""

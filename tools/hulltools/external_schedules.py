@@ -211,6 +211,8 @@ def followed_value(value: Any, name: str, periods: int) -> Followed:
     units, keys = units_of(value, name)
     found = Followed(kinds=kinds_of(value, name))
     for unit, row in units.items():
+        if keys is PLAIN and isinstance(row, dict):
+            refuse_misspelt(row, f"{name}: {one_line(unit)}", list(PLAIN), "key")
         lists: Dict[str, Any] = {}
         for what, names in keys.items():
             key = next((it for it in names if isinstance(row, dict) and it in row), None)
@@ -228,6 +230,7 @@ def followed_csv(data: bytes, name: str, periods: int) -> Followed:
         raise HullError(
             f"{name}: the first line has to name the columns unit, period, on, power, reserve, with commas between them"
         )
+    refuse_misspelt(columns, name, COLUMNS, "column")
     for line, row in rows:
         for column in (it for it in columns if it != "unit"):
             refuse_line_end(row[column], f"{name}, line {line}")
@@ -235,18 +238,19 @@ def followed_csv(data: bytes, name: str, periods: int) -> Followed:
     return followed_rows(((f"{name}, line {line}", row) for line, row in rows), name, periods)
 
 
-def refuse_misspelt(columns: List[Any], name: str) -> None:
-    """Refuses a column that is skipped, and whose name is near to that of one that isn't there."""
-    absent = [column for column in COLUMNS if column not in columns]
-    for column in columns:
-        near = difflib.get_close_matches(str(column).casefold(), absent, 1, NEAR) if column not in COLUMNS else []
+def refuse_misspelt(found: Iterable[Any], name: str, known: Sequence[str], what: str) -> None:
+    """Refuses a column or key that is skipped, and whose name is near to that of a known one that isn't there."""
+    names = list(found)
+    absent = [it for it in known if it not in names]
+    for given in names:
+        near = difflib.get_close_matches(str(given).casefold(), absent, 1, NEAR) if given not in known else []
         if near:
-            raise HullError(f"{name}: `{told_value(column)}` is no column of it: is `{near[0]}` meant?")
+            raise HullError(f"{name}: `{told_value(given)}` is no {what} of it: is `{near[0]}` meant?")
 
 
 def followed_frame(frame: Any, name: str, periods: int) -> Followed:
     """What a data frame says, whose columns are those of a csv; a number that isn't there is an empty cell."""
-    refuse_misspelt(list(frame.columns), name)
+    refuse_misspelt(frame.columns, name, COLUMNS, "column")
     missing = [column for column in ("unit", "period", "power") if column not in frame.columns]
     if missing:
         raise HullError(f"{name} has no column `{missing[0]}`: unit, period, on, power and reserve are its columns")

@@ -105,7 +105,9 @@ def told_apart_count(tables: dict[str, Table]) -> int:
 
 PER_MW = "_currency_per_mw"
 MOST_HOURS = 10_000
-DAY_FIRST = re.compile(r"\s*\d{1,2}[-/. ]\d{1,2}[-/. ]\d")  # a day and a month, or a month and a day
+YEAR_FIRST = re.compile(
+    r"\s*[0-9]{4}(?![0-9:])|\s*[0-9]{8}(?![0-9])"
+)  # (pandas would take others too, as a time of today)
 NUMBERS = ("budget", "ahead", "proposals", "chosen", "proposal", "periods", "units", "scheduled_on")  # without an end
 HEADS = {
     "runs": "report command side periods units budget ahead proposals chosen cost:money value:money payments:money "
@@ -220,8 +222,7 @@ def frames_of(
 
 def start_of(pandas: Any, start: Start) -> Any:
     """When the first period begins, as pandas has it."""
-    # (of a text with the day first pandas would warn, on standard error)
-    is_none = is_number_text(start) or isinstance(start, str) and DAY_FIRST.match(start)
+    is_none = is_number_text(start) or isinstance(start, str) and not YEAR_FIRST.match(start)
     try:
         found = pandas.NaT if is_none else pandas.Timestamp(start)
     except (TypeError, ValueError):

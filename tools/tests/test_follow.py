@@ -145,6 +145,11 @@ class Follow(unittest.TestCase):
         for text, due in (
             ("unit,period,on,power\nG1,1,1,60,5\n", "line 2: it has more cells than the first line names columns."),
             ("unit,period,power,power\nG1,1,1,2\n", "the column 'power' stands twice"),
+            ("unit,period,on,power,Reserve\nG1,1,1,60,5\n", "`Reserve` is no column of it: is `reserve` meant?"),
+            (
+                '{"thermal": {"G1": {"on": [1], "power": [6], "reserves": [5]}}}',
+                "G1: `reserves` is no key of it: is `r",
+            ),
             ("unit,period,power\nG1,1,1\nG1,1,2\n", 'line 3: a second row of unit "G1" and period 1'),
             ("unit,period,power\nG1,1,1\nG1,01,2\n", 'line 3: a second row of unit "G1" and period 1'),
             (

@@ -81,6 +81,10 @@ class Clocks(unittest.TestCase):
         self.assertEqual((clock.price_text(7500), clock.price_number(7500)), ("30.000", Decimal(30)))
         self.assertEqual(clock.times(3), ["2026-07-01T23:30", "2026-07-01T23:45", "2026-07-02T00:00"])
         self.assertEqual(clock.labels(3), ["23:30", "23:45", "00:00"])
+        clock = Clock(Fraction(1, 120), datetime.fromisoformat("2026-07-01T23:59:30+02:00"))
+        self.assertEqual(clock.times(2), ["2026-07-01T23:59:30+02:00", "2026-07-02T00:00:00+02:00"])
+        self.assertEqual(clock.labels(2), ["23:59:30", "00:00:00"])
+        self.assertEqual(Clock(Fraction(1, 7), datetime(2026, 7, 1)).times(2)[1], "2026-07-01T00:08:34.285")
 
     def test_where_clocks_change_no_hour_is_guessed(self):
         day = datetime(2026, 10, 25)

@@ -109,7 +109,8 @@ class Columns(unittest.TestCase):
         self.assertNotIn("energy_currency_per_mwh", settled(98).frames()["prices"])
 
     def test_times_that_are_none(self):
-        for start in ("tomorrow", "", 5, "5", float("nan"), "01/07/2026", "1.7.2026 00:00", "29.03.2026"):
+        odd = ("tomorrow", "now", "12:00", "July 2026", "Wed 01/07/2026", "01/07/2026", "1.7.2026 00:00", "29.03.2026")
+        for start in (*odd, "", 5, "5", float("nan"), "2026", "20:26"):
             with warnings.catch_warnings(), self.assertRaisesRegex(
                 hulltools.HullError, "^start is .*: a time is due, as 2026-07-01T00:00$"
             ):

@@ -25,7 +25,8 @@ def is_main(workflow: Any) -> bool:
 ASKED = (
     "dryrun dag rulegraph filegraph d3dag list list_target_rules lint summary detailed_summary print_compilation report archive "
     "list_version_changes list_code_changes list_input_changes list_params_changes list_untracked list_changes list_rules "
-    "unlock cleanup_metadata cleanup_shadow containerize"
+    "unlock cleanup_metadata cleanup_shadow containerize list_conda_envs conda_cleanup_envs conda_create_envs_only export_cwl "
+    "generate_unit_tests"
 ).split()
 
 
