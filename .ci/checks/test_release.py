@@ -299,7 +299,7 @@ class AsMade(unittest.TestCase):
         """Status, standard output and standard error."""
         how = {"user": 65534, "group": 65534, "extra_groups": [], "stdin": subprocess.DEVNULL}
         env = {"PATH": "/usr/bin:/bin", **env}
-        done = subprocess.run(words, cwd=folder, env=env, capture_output=True, timeout=600, **how)
+        done = subprocess.run(words, cwd=folder, env=env, capture_output=True, timeout=1800, **how)
         return done.returncode, done.stdout.decode(), done.stderr.decode()
 
     def listed(self):
