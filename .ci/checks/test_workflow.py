@@ -179,6 +179,15 @@ class Misfortunes(Workflow):
         refused = "refused: fault 4 schedule 53 kind renewable unit 1 period 1 left 9999 right 3000 (days/refused/schedule.json: "
         return {**{name: why for name, (_, why) in told.items()}, "refused": refused}
 
+    def test_a_refused_case_without_a_schedule_is_told_once(self) -> None:
+        self.days("one")
+        os.remove(f"{self.study}/days/one/schedule.json")
+        self.change("one", "case.json", lambda value: value.update(demand=[-1]))
+        self.assertFalse(self.run_all("--retries", "2")[0])
+        due = "schedule: refused: fault 3 case 23 field demand kind case unit 0 item 1 (days/one/case.json: "
+        self.assertEqual(self.left()["one"][0][: len(due)], due)
+        self.assertEqual([call for call in self.calls() if call.startswith("check")], ["check days/one"])
+
     def test_each_day_is_told_of_and_made_later(self) -> None:
         due = self.misfortunes()
         is_right, said = self.run_all("--retries", "1")

@@ -86,6 +86,9 @@ def read(name: str) -> bytes:
 
 
 def make_schedule(day: Day, room: str) -> Made:
+    why = Hull(day.settings.program).refusal_of_case(day.path("case"))
+    if why:
+        raise Refused(why, in_words(why, Files({"case": day.path("case")})))
     words = (*day.settings.words_of("schedule"), "--hull", day.settings.program)
     tool(day, "make_schedule.py", day.path("case"), f"{room}/schedule.json", *words)
     return {"schedule.json": read(f"{room}/schedule.json")}
