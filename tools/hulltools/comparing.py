@@ -1,10 +1,10 @@
 """Amounts by unit of a statement beside those of a settlement."""
 import re
-from collections import Counter
 from dataclasses import dataclass
 from decimal import Decimal, InvalidOperation
 from typing import Dict, List, Mapping, Optional, Sequence
 
+from .cash_flows import KINDS
 from .errors import HullError, named_rows, one_line, refuse_line_end
 from .numbers import Millionths
 from .outputs import Owed
@@ -39,13 +39,16 @@ def amount_of(text: str, where: str) -> Millionths:
     return Millionths(int((number * 10**6).to_integral_value()))
 
 
-def kinds_of_names(units: Sequence[Owed]) -> Counter[str]:
-    """How many kinds have a unit of a name: by a name that several have no unit is known."""
-    return Counter(unit.name for unit in units)
+def kinds_of_names(units: Sequence[Owed]) -> Dict[str, List[str]]:
+    """The kinds that have a unit of a name: by a name that several have no unit is known."""
+    found: Dict[str, List[str]] = {}
+    for unit in units:
+        found.setdefault(unit.name, []).append(unit.kind)
+    return found
 
 
-def key_of(cell: str, kind: str, known: Mapping[str, int], where: str) -> str:
-    """The name of a row's unit, or its kind and name as thermal:G2 where several kinds have the name.
+def key_of(cell: str, kind: str, known: Mapping[str, Sequence[str]], where: str) -> str:
+    """The name of a row's unit, or its kind and name as thermal:G2 where several kinds have the name, or another one than the row says.
 
     Spaces around a name are left out where no unit has it with them.
     """
@@ -53,11 +56,11 @@ def key_of(cell: str, kind: str, known: Mapping[str, int], where: str) -> str:
     name = as_it_was(cell)
     if name not in known:
         name = as_it_was(cell.strip())
-    if known.get(name, 0) < 2:
-        return name
-    if not kind.strip():
+    kinds, said = known.get(name, ()), kind.strip()
+    if len(kinds) > 1 and not said:
         raise HullError(f"{where}: several kinds have a unit {one_line(name)!r}: write it as thermal:{one_line(name)}")
-    return f"{kind.strip()}:{name}"
+    is_other = bool(kinds) and said in KINDS and said not in kinds
+    return f"{said}:{name}" if len(kinds) > 1 or is_other else name
 
 
 def statement_of(
@@ -85,7 +88,7 @@ def differences(statement: Dict[str, Millionths], units: List[Owed], rule: str) 
     """Every unit of either, the largest difference first."""
     known = kinds_of_names(units)
     settled = {
-        f"{owed.kind}:{owed.name}" if known[owed.name] > 1 else owed.name: Millionths(paid(owed, rule))
+        f"{owed.kind}:{owed.name}" if len(known[owed.name]) > 1 else owed.name: Millionths(paid(owed, rule))
         for owed in units
     }
     names = [*settled, *(name for name in statement if name not in settled)]

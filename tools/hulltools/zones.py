@@ -76,6 +76,11 @@ def zones_of(name: Name, value: Any, case: Case) -> Zones:
             raise HullError(f"{name}: {told}: say which, as {one_line(f'{kinds[0]}:{unit}')}")
         if not isinstance(zone, str) or zone not in prices:
             raise HullError(f'{name}: the zone of unit "{one_line(unit)}" has no prices')
+    for kind, member in case.units:
+        if member.name in units and f"{kind}:{member.name}" in units:
+            raise HullError(
+                f'{name}: `units` has unit "{one_line(member.name)}" twice, also as {kind}:{one_line(member.name)}'
+            )
     if default is not None and (not isinstance(default, str) or default not in prices):
         raise HullError(f"{name}: the default zone has no prices")
     without = next((it.name for kind, it in case.units if not units.keys() & {it.name, f"{kind}:{it.name}"}), None)

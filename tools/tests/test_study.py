@@ -258,6 +258,10 @@ class SettleZones(unittest.TestCase):
             ({"default": "EAST"}, "the default zone has no prices"),
             ({"units": {"COAL": "EAST"}}, 'the zone of unit "COAL" has no prices'),
             ({"units": {"GAS": "SOUTH"}}, 'the case has no unit "GAS"'),
+            (
+                {"units": {"COAL": "SOUTH", "thermal:COAL": "SOUTH"}},
+                '`units` has unit "COAL" twice, also as thermal:COAL',
+            ),
             ({"zones": {}}, "no zones"),
             (
                 {"zones": {"SOUTH": {"energy": [30, 30]}}},
@@ -340,6 +344,11 @@ class Compare(unittest.TestCase):
         units = [Owed("thermal", "A", 5, 0, 5), Owed("thermal", "A ", 7, 0, 7), Owed("thermal", "B", 9, 0, 9)]
         found = statement_of("s", "unit,amount\nA,5\nA ,7\n B ,9\n", units)
         self.assertEqual(found, {"A": 5 * MILLION, "A ": 7 * MILLION, "B": 9 * MILLION})
+
+    def test_a_row_of_another_kind_is_of_another_unit(self):
+        units = [Owed("thermal", "A", 5, 0, 5)]
+        for kind, key in (("renewable", "renewable:A"), ("thermal", "A"), ("", "A"), ("generator", "A")):
+            self.assertEqual(statement_of("s", f"unit,amount,kind\nA,5,{kind}\n", units), {key: 5 * MILLION})
 
     def test_make_whole_alone(self):
         status, _, said = self.compare("unit,amount\nPEAKER,500\n", "--rule", "make-whole")
