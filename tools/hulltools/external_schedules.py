@@ -216,7 +216,7 @@ def followed_value(value: Any, name: str, periods: int) -> Followed:
         lists: Dict[str, Any] = {}
         for what, names in keys.items():
             key = next((it for it in names if isinstance(row, dict) and it in row), None)
-            if key is not None and isinstance(row[key], (list, dict)):
+            if key is not None and (keys is PLAIN or row[key] is not None):
                 lists[key] = row[key]
                 getattr(found, what)[unit] = numbers(row[key], periods, name, f"{unit}, {key}")
         refuse_other_keys(lists, name, unit)

@@ -208,6 +208,7 @@ class StudyFolder:
         self.named, self.folder = folder, os.path.realpath(folder)
         self.is_new, self.is_kept = False, False
         self.room, self.handle = "", -1
+        self.is_begun = False  # whether the names were looked at before the work
         self.aside: list[str] = []
 
     def __enter__(self) -> StudyFolder:
@@ -264,6 +265,11 @@ class StudyFolder:
                         os.close(handle)
 
     def refuse(self, names: Sequence[str]) -> None:
+        """Refuses such names before the work begins; what is made behind this isn't thrown away."""
+        self.refuse_names(names)
+        self.is_begun = True
+
+    def refuse_names(self, names: Sequence[str]) -> None:
         """Refuses names of files that can't be written, or that would replace a file that is read, that no run made, or that was changed."""
         known = sums_of(self.folder, self.tool)
         for name in (*names, MARK, SUMS):
@@ -292,18 +298,33 @@ class StudyFolder:
         return (known is not None and name == SUMS) or is_begun or (name, was) in (known or ())
 
     def place(self, unfinished: str = "") -> None:
-        """Puts the files of the room in place of those of the run before; `unfinished` says what is missing of them, if anything."""
+        """Puts the files of the room in place of those of the run before; `unfinished` says what is missing of them, if anything.
+
+        Where that can't be, as where somebody has put a file there meanwhile, the room stays, and the error says where it is.
+        """
         try:
             with self.locked():
                 self.place_all(unfinished)
         except Kept as why:
-            os.unlink(os.path.join(self.room, OWN))  # (so that no later run takes it away)
-            self.is_kept = True
-            raise HullError(f"{why}: what was made is in {self.room}") from None
+            raise HullError(f"{why}: {self.kept_room()}") from None
+        except (HullError, OSError) as why:
+            if not self.is_begun:
+                raise
+            told = (
+                why.line if isinstance(why, HullError) else f"{one_line(why.filename or self.folder)}: {why.strerror}"
+            )
+            raise (NotOurs if isinstance(why, NotOurs) else HullError)(f"{told}; {self.kept_room()}") from None
+
+    def kept_room(self) -> str:
+        """Keeps the room: no later run takes it away. Says where it is."""
+        self.is_kept = True
+        with contextlib.suppress(OSError):
+            os.unlink(os.path.join(self.room, OWN))
+        return f"what was made is in {one_line(self.room)}"
 
     def place_all(self, unfinished: str) -> None:
         names = sorted(set(os.listdir(self.room)) - {OWN})
-        self.refuse(names)
+        self.refuse_names(names)
         self.set_aside(names)
         old, new = self.held_sums(), {(name, sha256_in(self.room, name)) for name in names}
         texts = {MARK: begun_text(self.tool), BOTH: text_of_sums(old | new, self.tool), END: f"{unfinished}\n"}

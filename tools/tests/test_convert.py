@@ -480,6 +480,24 @@ class Others(WithRoom):
             self.assertEqual(case["demand"][0], market.case()["demand"][0] + 70 + is_there)
             self.assertEqual("left out: generators that aren't in service (1: GT5)\n" in told, not is_there)
 
+    def test_what_has_no_demand_is_told(self) -> None:
+        egret, julia = other_forms.egret(), other_forms.unit_commitment_jl()
+        egret["elements"]["load"] = {"L1": {"bus": "b1"}}
+        julia["Buses"]["b2"] = {}
+        del julia["Reserves"]["r1"]["Amount (MW)"]
+        without = other_forms.egret(), other_forms.unit_commitment_jl()
+        del without[0]["elements"]["load"], without[1]["Buses"]
+        for value, dues in (
+            (egret, ["a load without p_load takes nothing (1: L1)"]),
+            (julia, ["a bus without Load (MW) takes nothing (1: b2)", "a reserve without Amount (MW) is 0 (1: r1)"]),
+            (without[0], ["no load: demand is 0 in all periods"]),
+            (without[1], ["no bus: demand is 0 in all periods"]),
+        ):
+            other_forms.write_json(f"{self.room}/bare.json", value)
+            told, _ = self.convert(f"{self.room}/bare.json", f"{self.room}/case.json")
+            for due in dues:
+                self.assertIn(f"assumed: {due}\n", told)
+
     def test_lists_that_are_not_over_the_periods(self) -> None:
         for form, key, item in (
             (other_forms.unit_commitment_jl, "Production cost curve ($)", [[100] * 23, 200]),

@@ -150,6 +150,9 @@ class Follow(unittest.TestCase):
                 '{"thermal": {"G1": {"on": [1], "power": [6], "reserves": [5]}}}',
                 "G1: `reserves` is no key of it: is `r",
             ),
+            ('{"thermal": {"G1": {"reserve": 5}}}', "plan.csv: G1, reserve: a list of 24 numbers is due"),
+            ('{"thermal": {"G1": {"on": null}}}', "plan.csv: G1, on: a list of 24 numbers is due"),
+            ('{"elements": {"generator": {"G1": {"rg": 20.0}}}}', "plan.csv: G1, rg: a list of 24 numbers is due"),
             ("unit,period,power\nG1,1,1\nG1,1,2\n", 'line 3: a second row of unit "G1" and period 1'),
             ("unit,period,power\nG1,1,1\nG1,01,2\n", 'line 3: a second row of unit "G1" and period 1'),
             (

@@ -144,6 +144,28 @@ class Studies(InFolder):
         self.study(other="1")
         self.assertEqual(read(f"{folder.room}/table"), "1")
 
+    def test_what_was_made_is_kept_where_a_file_has_come_meanwhile(self) -> None:
+        self.study(table="1")
+        for change, due in (
+            (
+                lambda: write(f"{self.folder}/table", "mine"),
+                "it was changed since a study wrote it, so it stays: move it",
+            ),
+            (lambda: write(f"{self.folder}/page", "mine"), "no study here made this, so it stays"),
+            (lambda: os.mkdir(f"{self.folder}/page"), "page: Is a directory"),
+        ):
+            with StudyFolder(self.folder) as folder:
+                folder.refuse(["table", "page"])
+                for name in ("table", "page"):
+                    write(f"{folder.room}/{name}", "2")
+                change()
+                with self.assertRaisesRegex(HullError, f"{due}.*; what was made is in {folder.room}$"):
+                    folder.place()
+            self.assertEqual([read(f"{folder.room}/{name}") for name in ("table", "page")], ["2", "2"])
+            for name in ("table", "page"):
+                if os.path.isfile(f"{self.folder}/{name}"):
+                    os.unlink(f"{self.folder}/{name}")
+
     def test_a_lock_is_no_link(self) -> None:
         self.made(precious="1")
         os.symlink("precious", f"{self.folder}/{LOCK}")

@@ -86,10 +86,14 @@ class Model:
             for key in ("bus", "area", "zone", "name"):
                 load.take(key)
             if flag(load.take("in_service", True), f'load "{name}", in_service'):
+                if load.value.get("p_load") is None:
+                    self.notes.assumed("a load without p_load takes nothing", name)
                 rows.append(series(values(load.take("p_load", 0)), self.periods, f'load "{name}", p_load'))
             else:
                 self.notes.left_out("loads that aren't in service", name)
             load.rest()
+        if not self.elements.object("load"):
+            self.notes.assumed("no load: demand is 0 in all periods")
         if len(self.elements.object("bus")) > 1:
             self.notes.left_out(NETWORK)
         found = sum_of(rows, self.periods)

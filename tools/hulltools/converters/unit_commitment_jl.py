@@ -89,8 +89,12 @@ class Instance:
         rows = []
         for name, value in self.top.object("Buses").items():
             bus = Taken(value, "Buses", name, self.notes)
+            if bus.value.get("Load (MW)") is None:
+                self.notes.assumed("a bus without Load (MW) takes nothing", name)
             rows.append(series(bus.take("Load (MW)", 0), self.periods, f'bus "{name}", Load (MW)'))
             bus.rest()
+        if not rows:
+            self.notes.assumed("no bus: demand is 0 in all periods")
         found = sum_of(rows, self.periods)
         lists_out_negative(found, "Buses")
         return found
@@ -107,6 +111,8 @@ class Instance:
                 continue
             reserve = Taken(value, "Reserves", name, self.notes)
             kind, amount = str(reserve.take("Type", "spinning")).lower(), reserve.take("Amount (MW)", 0)
+            if reserve.value.get("Amount (MW)") is None:
+                self.notes.assumed("a reserve without Amount (MW) is 0", name)
             reserve.drop("penalties for what isn't met: demand and reserve have to be met", "Shortfall penalty ($/MW)")
             reserve.rest()
             if kind == "spinning" and found is None:
