@@ -78,11 +78,13 @@ def make_schedule(
         number_option("gap", gap, 0), whole_option("nodes", nodes, 1, MOST_NODES), seconds_option(seconds)
     )
     need_scipy()
+    program = Hull(hull, tell)
+    program.need("check")  # (before the search, which would be lost)
     before = sums_of_files([os.fspath(case)]) if is_name(case) else {}
     with told_to(tell):
         with told_of_a_call():
             found = search_schedule(as_case(case), limits)
-        found.checked_cost = Hull(hull, tell).check(case, found.schedule)
+        found.checked_cost = program.check(case, found.schedule)
     refuse_changed(before, "search and check are", "there is no schedule")
     return found
 
@@ -105,6 +107,8 @@ def follow_schedule(
     """
     seconds = seconds_option(seconds)
     need_scipy()
+    program = Hull(hull, tell)
+    program.need("check")
     read, said = as_case(case), in_words_of_a_call(tell)
     followed, name = as_followed(powers, read)
     for names, is_so in (
@@ -116,7 +120,7 @@ def follow_schedule(
             said(f"{name}: {some(names)} {is_so}")
     with told_to(tell):
         found = follow(read, followed, name, seconds)
-        found.checked_cost = Hull(hull, tell).check(case, found.schedule)
+        found.checked_cost = program.check(case, found.schedule)
     said(in_words(found.deviations, name))
     return found
 
@@ -245,10 +249,10 @@ def word_of(key: str, value: object) -> str:
 
 
 def words_of(options: Dict[str, object]) -> List[str]:
-    """Options of study.py as its words: True is a word alone; None, False and empty lists are left out."""
+    """Options of study.py as its words: True is a word alone; None, False and empty lists are left out, but for a list of no fast-start unit."""
     found = []
     for key, value in options.items():
-        is_empty = isinstance(value, LISTS) and not value
+        is_empty = isinstance(value, LISTS) and not value and key != "fast_start"
         if value is not None and value is not False and not is_empty:
             found.append(f"--{key.replace('_', '-')}" + ("" if value is True else f"={word_of(key, value)}"))
     return found
@@ -313,6 +317,8 @@ def named_prices(given: Optional[Mapping[str, GivenPrices]], case: Case) -> Dict
         raise HullError(f"prices is a dict of price lists by name, and no `{type(given).__name__}` can be that")
     found = {}
     for name, prices in (given or {}).items():
+        if "=" in str(name):
+            raise HullError(f"the prices {told_value(name)} given: a name of a list has no `=`")
         try:
             found[name] = as_prices(prices, case)
         except HullError as why:
@@ -366,7 +372,8 @@ def study(
         with told_to(tell), told_of_a_call(), room.told(), StudyFolder(to, inputs_of(asked)) as place_of:
             found = study_of(asked, words, program, place_of.room, said, place_of.refuse)
             if folder:
-                write_results(found, place_of.room)
+                with place_of.keeping():
+                    write_results(found, place_of.room)
                 place_of.place(found.unfinished)
         if found.interrupted:
             raise found.interrupted

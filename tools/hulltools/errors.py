@@ -243,6 +243,8 @@ def run_tool(
         tell("nobody reads the output")
         forget_output()
         return ends.no_output
+    except FileNotFoundError as error:
+        tell(f"{error.filename or 'the working folder'}: {error.strerror or error}")
     except OSError as error:
         tell(f"{error.filename or 'standard output'}: {error.strerror or error}")
         forget_output()

@@ -33,6 +33,7 @@ JULIA: Dict[str, Tuple[str, ...]] = {
 }
 EGRET: Dict[str, Tuple[str, ...]] = {"on": ("commitment",), "power": ("pg", "p"), "reserve": ("rg", "headroom")}
 PLAIN: Dict[str, Tuple[str, ...]] = {"on": ("on",), "power": ("power",), "reserve": ("reserve",)}
+SPINNING = "Spinning reserve (MW)"  # of UnitCommitment.jl: by product, and then by unit
 KINDS = {  # of the units that a member of a file names
     "thermal": "thermal",
     "Thermal production (MW)": "thermal",
@@ -142,18 +143,33 @@ def refuse_other_keys(lists: Mapping[str, Any], name: str, unit: str) -> None:
             raise HullError(f"{name}: {first} aren't of the same periods: {one_line(odd)!r} is in one of them alone")
 
 
+def refuse_otherwise_written(found: Iterable[str], name: str, known: Iterable[str]) -> None:
+    """Refuses a key that is a known one but for its case and spaces, since it would be skipped."""
+    keys = {plain_key(key): key for key in known}
+    for key in found:
+        meant = keys.get(plain_key(key), key)
+        if meant != key:
+            raise HullError(f"{name}: `{one_line(key)}` is no key of it: is `{meant}` meant?")
+
+
+def plain_key(key: str) -> str:
+    return "".join(key.casefold().split())
+
+
 def units_of(value: Dict[str, Any], name: str) -> Tuple[Dict[str, Any], Dict[str, Tuple[str, ...]]]:
     """By unit name an object of lists, whichever of the three forms the file has."""
     if isinstance(value.get("elements"), dict):
         return object_of(value["elements"].get("generator", {}), name, "generator"), EGRET
+    known = [*KINDS, SPINNING, *(key for keys in JULIA.values() for key in keys)]
+    refuse_otherwise_written(value, name, known)
     if any(isinstance(value.get(key), dict) for keys in JULIA.values() for key in keys):
         turned: Dict[str, Any] = {}
-        products = value.get("Spinning reserve (MW)")
+        products = value.get(SPINNING)
         if isinstance(products, dict) and "Reserve (MW)" not in value:
             if len(products) > 1:
                 several = f"{len(products)} products, {one_line(some(list(products)))}"
-                raise HullError(f"{name}: Spinning reserve (MW) has {several}, and one alone can be followed")
-            reserve = object_of(next(iter(products.values()), {}), name, "Spinning reserve (MW)")
+                raise HullError(f"{name}: {SPINNING} has {several}, and one alone can be followed")
+            reserve = object_of(next(iter(products.values()), {}), name, SPINNING)
             value = {**value, "Reserve (MW)": reserve}
         for key, by_name in value.items():
             for unit, row in by_name.items() if isinstance(by_name, dict) else ():
@@ -211,6 +227,10 @@ def followed_value(value: Any, name: str, periods: int) -> Followed:
     units, keys = units_of(value, name)
     found = Followed(kinds=kinds_of(value, name))
     for unit, row in units.items():
+        if isinstance(row, dict):
+            refuse_otherwise_written(
+                row, f"{name}: {one_line(unit)}", [key for names in keys.values() for key in names]
+            )
         if keys is PLAIN and isinstance(row, dict):
             refuse_misspelt(row, f"{name}: {one_line(unit)}", list(PLAIN), "key")
         lists: Dict[str, Any] = {}
@@ -245,7 +265,7 @@ def refuse_misspelt(found: Iterable[Any], name: str, known: Sequence[str], what:
     for given in names:
         near = difflib.get_close_matches(str(given).casefold(), absent, 1, NEAR) if given not in known else []
         if near:
-            raise HullError(f"{name}: `{told_value(given)}` is no {what} of it: is `{near[0]}` meant?")
+            raise HullError(f"{name}: `{one_line(given)[:60]}` is no {what} of it: is `{near[0]}` meant?")
 
 
 def followed_frame(frame: Any, name: str, periods: int) -> Followed:

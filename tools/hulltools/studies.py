@@ -15,6 +15,8 @@ from .errors import (
     Found,
     HullError,
     Interrupted,
+    NoOutput,
+    NotOurs,
     OverTime,
     Tell,
     heard_later,
@@ -129,6 +131,7 @@ class Study:
     is_far: bool = False  # (whether the search for convex hull prices missed its distance)
     missing: List[str] = field(default_factory=list)  # names of lists that an interrupt left out
     interrupted: Optional[Interrupted] = None
+    failure: Optional[HullError] = None  # of the first list that couldn't be made
 
     def __repr__(self) -> str:
         names = ", ".join(settled.list.name for settled in self.in_order())
@@ -331,12 +334,17 @@ class Maker:
         return study
 
     def make_list(self, price_list: PriceList, make: Callable[[], None]) -> None:
-        """Makes one list; one that takes too long is left out, and told."""
+        """Makes one list; one that takes too long or can't be made is left out, and told: the others and the schedule aren't lost with it."""
         try:
             with step(price_list.name):
                 make()
         except OverTime as why:
             self.say_short(f"{price_list.name} is left out: {why}. Give --seconds more, or --skip {price_list.key}.")
+        except (NoOutput, NotOurs):
+            raise
+        except HullError as why:
+            self.study.failure = self.study.failure or why
+            self.say_short(f"{price_list.name} is left out: {why.line}.")
 
     def say_short(self, told: str) -> None:
         """Tells, and has the page say, what a list isn't that it was to be."""

@@ -300,15 +300,18 @@ class StudyFolder:
     def place(self, unfinished: str = "") -> None:
         """Puts the files of the room in place of those of the run before; `unfinished` says what is missing of them, if anything.
 
-        Where that can't be, as where somebody has put a file there meanwhile, the room stays, and the error says where it is.
+        Where that can't be, as where somebody has put a file there meanwhile, the room is kept.
         """
+        with self.keeping(), self.locked():
+            self.place_all(unfinished)
+
+    @contextlib.contextmanager
+    def keeping(self) -> Iterator[None]:
+        """Keeps the room, with what was made in it, where what is done within can't be done; the error says where it is."""
         try:
-            with self.locked():
-                self.place_all(unfinished)
-        except Kept as why:
-            raise HullError(f"{why}: {self.kept_room()}") from None
+            yield
         except (HullError, OSError) as why:
-            if not self.is_begun:
+            if not (self.is_begun or isinstance(why, Kept)):
                 raise
             told = (
                 why.line if isinstance(why, HullError) else f"{one_line(why.filename or self.folder)}: {why.strerror}"

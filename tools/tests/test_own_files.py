@@ -139,7 +139,7 @@ class Studies(InFolder):
         with StudyFolder(self.folder) as other:
             with StudyFolder(self.folder) as folder, other.locked(), mock.patch.object(study_folder, "WAIT", 0.0):
                 write(f"{folder.room}/table", "1")
-                with self.assertRaisesRegex(HullError, f"kept this folder for 0 s: what was made is in {folder.room}"):
+                with self.assertRaisesRegex(HullError, f"kept this folder for 0 s; what was made is in {folder.room}"):
                     folder.place()
         self.study(other="1")
         self.assertEqual(read(f"{folder.room}/table"), "1")
@@ -165,6 +165,15 @@ class Studies(InFolder):
             for name in ("table", "page"):
                 if os.path.isfile(f"{self.folder}/{name}"):
                     os.unlink(f"{self.folder}/{name}")
+
+    def test_what_was_made_is_kept_where_a_page_cannot_be_written(self) -> None:
+        with StudyFolder(self.folder) as folder:
+            folder.refuse(["table"])
+            write(f"{folder.room}/table", "1")
+            due = f"^page: No space left on device; what was made is in {folder.room}$"
+            with self.assertRaisesRegex(HullError, due), folder.keeping():
+                raise OSError(28, "No space left on device", "page")
+        self.assertEqual(read(f"{folder.room}/table"), "1")
 
     def test_a_lock_is_no_link(self) -> None:
         self.made(precious="1")

@@ -492,6 +492,9 @@ class Words(Refusals):
     def test_lists_are_words(self):
         options = {"skip": ["elmp", "relaxation"], "fast_start": ("G1",), "search": True, "title": None, "zones": []}
         self.assertEqual(calls.words_of(options), ["--skip=elmp,relaxation", "--fast-start=G1", "--search"])
+        self.assertEqual(calls.words_of({"fast_start": [], "skip": []}), ["--fast-start="])
+        with self.assertRaisesRegex(HullError, "^the prices a=b given: a name of a list has no `=`$"):
+            calls.named_prices({"a=b": hulltools.per_mwh(30)}, usual()[0])
         names = calls.words_of({"fast_start": ["A", "B, old", '"C"']})
         self.assertEqual(names, ['--fast-start=A,"B, old","""C"""'])
         due = "skip has a,b: a name in this list has no comma"

@@ -325,6 +325,32 @@ class Study(unittest.TestCase):
         self.assertTrue(about["ELMP"].endswith(" Fast-start: PEAKER"))
         self.assertIn(about["ELMP"], self.read("study.html"))
         self.assertIn('no thermal unit "NONE"', self.study("--no-schedule", "--fast-start", "NONE", status=1))
+        for words, due in (
+            (["--fast-start", "NONE"], 'no thermal unit "NONE"'),
+            (["--best-schedule", "none.json"], "none"),
+        ):
+            status, _, said = run("study.py", f"{self.FOLDER}/case.json", f"{self.room}/new", "--hull", PROGRAM, *words)
+            self.assertEqual((status, due in said, "a schedule is made" in said), (1, True, False), said)
+
+    def killed(self, command):
+        """A program that the system ends in a command that is given files."""
+        name = f"{self.room}/killed.sh"
+        with open(name, "w", encoding="utf-8") as file:
+            file.write(f'#!/bin/sh\n[ "$1 $2" != "{command} --case" ] || kill -9 $$\nexec {PROGRAM} "$@"\n')
+        os.chmod(name, 0o755)
+        return name
+
+    def test_a_list_that_cannot_be_made_is_left_out(self):
+        given = (f"{self.FOLDER}/case.json", f"{self.room}/st", "--schedule", f"{self.FOLDER}/schedule.json")
+        status, _, said = run("study.py", *given, "--no-schedule", "--hull", self.killed("convex"))
+        due = "Convex hull (certified) is left out: hull convex ended with status -9"
+        self.assertEqual((status, due in said), (3, True), said)
+        with open(f"{self.room}/st/study.html", encoding="utf-8") as page:
+            self.assertIn(due, page.read())
+        names = os.listdir(f"{self.room}/st")
+        self.assertEqual(("lmp.prices.json" in names, "convex_hull.prices.json" in names), (True, False))
+        status, _, said = run("study.py", *given[:1], f"{self.room}/none", *given[2:], "--hull", self.killed("settle"))
+        self.assertEqual((status, said.splitlines()[-1]), (1, "study.py: hull settle ended with status -9"))
 
     def test_lists_of_files_and_of_the_search(self):
         posted = f"{self.room}/posted.json"
@@ -491,6 +517,16 @@ class Calls(unittest.TestCase):
         self.assertIsInstance(made.bound, int)
         self.assertTrue(3_190_000_000 < made.bound <= made.cost)
         self.assertAlmostEqual(made.solver_cost, 3200.0)
+
+    def test_a_program_that_is_not_there_is_told_before_the_search(self):
+        told = []
+        for call in (
+            lambda: hulltools.make_schedule(self.case, hull="/none/hull", tell=told.append),
+            lambda: hulltools.follow_schedule(self.case, self.schedule, hull="/none/hull", tell=told.append),
+        ):
+            with self.assertRaisesRegex(hulltools.HullError, "^/none/hull: No such file or directory"):
+                call()
+        self.assertEqual(told, [])
 
     def test_steps_without_a_limit_of_time(self):
         given = self.case, self.schedule
@@ -817,6 +853,28 @@ class Sweep(unittest.TestCase):
         status, said = self.sweep("--outage", "COAL")
         self.assertEqual((status, list(self.gaps())), (1, ["base"]))
         self.assertIn("outage COAL is left out: the case can't be met: in period 1 the units give at most 100 MW", said)
+
+    def test_a_scenario_of_which_a_list_failed_is_made_anew(self):
+        name = f"{self.room}.sh"
+        self.addCleanup(os.unlink, name)
+        with open(name, "w", encoding="utf-8") as file:
+            file.write(f'#!/bin/sh\n[ "$1 $2" != "convex --case" ] || kill -9 $$\nexec {PROGRAM} "$@"\n')
+        os.chmod(name, 0o755)
+        words = ["sweep.py", *files("dear_schedule")[:1], self.room, "--hull", name]
+        for _ in range(2):
+            status, _, said = run(*words)
+            self.assertEqual((status, "base isn't done: the same words make it anew" in said), (1, True), said)
+        self.assertTrue(os.path.exists(f"{self.room}/base/lmp.prices.json"))
+
+    def test_a_fast_start_unit_may_be_out(self):
+        words = ["--outage", "PEAKER", "--", "--fast-start", "PEAKER,BLOCK", "--skip", "convex_hull"]
+        status, said = self.sweep(*words)
+        self.assertEqual(status, 0, said)
+        with open(f"{self.room}/sweep.csv", encoding="utf-8") as file:
+            about = {row["scenario"]: row["about"] for row in csv.DictReader(file) if row["list"] == "ELMP"}
+        self.assertEqual([it.split("Fast-start: ")[1] for it in about.values()], ["BLOCK, PEAKER", "BLOCK"])
+        status, said = self.sweep("--", "--fast-start", "NONE")
+        self.assertEqual((status, said), (1, 'sweep.py: the case has no thermal unit "NONE"\n'))
 
     def test_changes_that_are_none(self):
         for words, due in (

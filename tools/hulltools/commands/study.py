@@ -146,6 +146,7 @@ def wanted(given: argparse.Namespace, case: Case) -> Wanted:
     found = Wanted(given.search, fast_start(given), files, zones, rules, given.title, given.currency, clock)
     found.within, found.rounds, found.seconds = given.within, given.rounds, solver_seconds(given)
     found.skip = skipped(given.skip, list(files))
+    found.fast.units(case)  # (a name that there isn't is refused before anything is made)
     return found
 
 
@@ -179,14 +180,14 @@ def given_source(hull: Hull, case: str, name: str) -> tuple[Source, Millionths]:
 
 def schedules_of(given: argparse.Namespace, hull: Hull, room: str, tell: Tell) -> Schedules:
     """The schedule and the best one known, made in the room where they aren't given."""
-    if not given.schedule:
+    names = (given.schedule, given.best_schedule)
+    known, best = (given_source(hull, given.case, name) if name else None for name in names)
+    if known is None:
         with step("a schedule"):
-            source, cost = made_source(given, os.path.join(room, "schedule.json"), tell)
-    else:
-        source, cost = given_source(hull, given.case, given.schedule)
-    found = Schedules(source, cost)
-    if given.best_schedule:
-        found.best, found.best_cost = given_source(hull, given.case, given.best_schedule)
+            known = made_source(given, os.path.join(room, "schedule.json"), tell)
+    found = Schedules(*known)
+    if best:
+        found.best, found.best_cost = best
     elif given.schedule and not given.no_schedule:
         try:
             with step("a schedule beside the one given"):
@@ -195,7 +196,7 @@ def schedules_of(given: argparse.Namespace, hull: Hull, room: str, tell: Tell) -
             found.missing = f"No schedule was made beside this one: {why.line}."
             tell(found.missing)
     elif not given.schedule:
-        found.best_cost = cost
+        found.best_cost = found.cost
     return found
 
 
@@ -229,9 +230,10 @@ def study_of(
         study.notes.append(found.missing)
     Maker(hull, files, study, room, tell).make(until_written)
     refuse_changed(before, "the lists are")
+    why = study.interrupted or study.failure
+    if not study.lists and why:
+        raise why
     if not study.lists:
-        if study.interrupted:
-            raise study.interrupted
         raise HullError(f"there is no list of prices: {' '.join(study.notes) or 'all are skipped'}")
     return study
 
@@ -266,7 +268,8 @@ def study_in(folder: StudyFolder, given: argparse.Namespace, words: Sequence[str
     with contextlib.ExitStack() as until_written:
         study = study_of(given, words, hull, folder.room, tell, folder.refuse, until_written)
         study.notes += warnings
-        write_results(study, folder.room)
+        with folder.keeping():
+            write_results(study, folder.room)
         folder.place(study.unfinished)
     return study
 

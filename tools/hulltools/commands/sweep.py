@@ -102,11 +102,12 @@ def folder_of(folder: str, scenario: Scenario, inputs: Sequence[str]) -> StudyFo
 
 
 def write_scenario(place: StudyFolder, study: Study, work: Mark) -> str:
-    """Puts the files of a scenario's study in their places, with the mark that it is done; its table."""
+    """Puts the files of a scenario's study in their places, with the mark that it is done if no list has failed; its table."""
     table = lists_table(study).text()
     write_whole(os.path.join(place.room, TABLE), table)
     sums = {name: sha256_in(place.room, name) for name in os.listdir(place.room) if name != OWN}
-    write_whole(os.path.join(place.room, DONE), done_text(work, sums))
+    if study.failure is None:
+        write_whole(os.path.join(place.room, DONE), done_text(work, sums))
     place.place()
     return table
 
@@ -118,6 +119,9 @@ def make_scenario(
     case_file = os.path.join(place.room, CASE)
     write_whole(case_file, case)
     given, shown = study_arguments([case_file, place.named, *words]), os.path.join(place.named, CASE)
+    if given.fast_start:  # (the case as it is has all of these, and this one perhaps not: a unit is out)
+        there = {unit.name for unit in read_case(case_file).thermal}
+        given.fast_start = [name for name in given.fast_start if name in there]
     study = study_of(given, [shown, place.named, *words], hull, place.room, tell, place.refuse, until_written)
     if study.interrupted:
         raise study.interrupted
@@ -196,8 +200,12 @@ class Sweep:
             work = work_of(case, words, self.inputs[1:], self.program)
             with step(scenario.name):
                 self.tables[scenario.name] = table_of(folder, case, words, work, self.hull, self.tell)
-                self.works[scenario.name] = folder.folder, work
                 Found.is_there = True
+            if table_done(folder.folder, work) is None:
+                self.left_out += 1
+                self.tell(f"{scenario.name} isn't done: the same words make it anew")
+            else:
+                self.works[scenario.name] = folder.folder, work
         except HullError as why:
             self.left_out += 1
             self.tell(f"{scenario.name} is left out: {why.line}")
