@@ -340,6 +340,23 @@ class Study(unittest.TestCase):
         os.chmod(name, 0o755)
         return name
 
+    def test_what_was_found_is_kept_where_it_cannot_be_written(self):
+        given = [f"{self.FOLDER}/{name}.json" for name in ("case", "schedule")]
+        due, rest = "/dev/full: No space left on device; what was found is in ", ["--hull", PROGRAM]
+        for tool, words in (
+            ("lmp.py", [*given, "/dev/full"]),
+            ("elmp.py", [*given, "/dev/full"]),
+            ("convex_prices.py", [*given, "/dev/full", f"{self.room}/mixture.json"]),
+            ("make_schedule.py", [given[0], "/dev/full"]),
+        ):
+            status, _, said = run(tool, *words, *rest)
+            self.assertEqual((status, due in said), (1, True), said)
+            place = said.splitlines()[-1].split(due)[1]
+            self.addCleanup(shutil.rmtree, place)
+            with open(f"{place}/full", encoding="utf-8") as file:
+                self.assertTrue(json.load(file))
+        self.assertEqual(sorted(os.listdir(self.room)), [])
+
     def test_a_list_that_cannot_be_made_is_left_out(self):
         given = (f"{self.FOLDER}/case.json", f"{self.room}/st", "--schedule", f"{self.FOLDER}/schedule.json")
         status, _, said = run("study.py", *given, "--no-schedule", "--hull", self.killed("convex"))

@@ -23,8 +23,9 @@ import os
 from collections.abc import Sequence
 from typing import Optional
 
-from ..errors import HullError, Tell, run_tool, try_output, write_together
+from ..errors import HullError, Tell, run_tool, try_output
 from ..gap_parts import gap_parts
+from ..kept_work import write_found
 from ..numbers import money
 from ..outputs import Convex
 from ..program import Hull
@@ -66,7 +67,7 @@ def body(words: Sequence[str], tell: Tell) -> None:
     refuse_changed(before, "the gap would be")
     parts = gap_parts(found.cost, found.value, found.bound, best_cost)
     texts = {given.prices: found.prices.text(), given.mixture: found.mixture.text()}
-    write_together({**texts}, inputs, follow_links=True)
+    write_found(texts, inputs)
     tell(told(found))
     if found.prices.told_limits:
         tell(found.prices.told_limits)

@@ -27,6 +27,7 @@ from typing import Optional
 
 from ..cases import read_case
 from ..errors import HullError, Tell, one_line, run_tool, try_output
+from ..kept_work import write_found
 from ..linear import need_scipy
 from ..program import Hull
 from ..relaxation import fast_start_prices
@@ -50,7 +51,7 @@ def body(words: Sequence[str], tell: Tell) -> int:
     if not names:
         raise HullError("no unit is fast-start by the rule given: these prices would be LMPs")
     prices = fast_start_prices(case, read_schedule(given.schedule, case), fast, solver_seconds(given))
-    prices.write(given.prices, inputs)
+    write_found({given.prices: prices.text()}, inputs)
     tell(f"fast-start: {one_line(', '.join(names))}")
     return status_of(prices, tell)
 

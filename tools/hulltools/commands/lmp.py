@@ -24,6 +24,7 @@ from ..program import Hull
 from ..relaxation import held_prices
 from ..schedules import read_schedule
 from ..errors import Tell, run_tool, try_output
+from ..kept_work import write_found
 from .words import add_seconds, asker, solver_seconds, status_of
 
 
@@ -38,7 +39,7 @@ def body(words: Sequence[str], tell: Tell) -> int:
     Hull(given.hull, tell, given.seconds).check(given.case, given.schedule)
     case = read_case(given.case)
     prices = held_prices(case, read_schedule(given.schedule, case), solver_seconds(given))
-    prices.write(given.prices, [given.case, given.schedule])
+    write_found({given.prices: prices.text()}, [given.case, given.schedule])
     return status_of(prices, tell)
 
 

@@ -41,6 +41,7 @@ from typing import Optional, Union
 from ..cases import Case, read_case
 from ..deviations import farthest, in_words, table_text
 from ..external_schedules import free_units, read_followed, some, strangers
+from ..kept_work import write_found
 from ..linear import need_scipy
 from ..numbers import Millionths, money
 from ..program import Hull
@@ -119,7 +120,7 @@ def make(given: Given, limits: SearchLimits, tell: Tell) -> tuple[Made, Milliont
     except HullError as why:
         raise HullError(f"no schedule is written, since what was found is refused: {why.line}") from None
     refuse_changed(before, "search and check are", "no schedule is written")
-    write_whole(given.schedule, found.schedule.text(), inputs_of(given))
+    write_found({given.schedule: found.schedule.text()}, inputs_of(given))
     return found, cost, reached or found.told(cost)
 
 
