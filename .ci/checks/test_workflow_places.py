@@ -210,6 +210,18 @@ class OfTheUser(Workflow):
         self.assertFalse(os.path.exists(self.result("edited/audit.txt")))
         self.assertEqual(read(self.result("edited/report.txt")), b"mine\n")
 
+    def test_files_that_words_name_count_by_their_contents(self) -> None:
+        contents, days = script("contents"), script("days")
+        os.mkdir(f"{self.room}/network")
+        for word, file in (("--follow ", "plan.json"), ("--follow=", "plan.json"), ("--follow ", "network/loads.csv")):
+            write(f"{self.room}/{file}", "1")
+            words = {"schedule": f"--gap 0.1 {word}{self.room}/{file.split('/')[0]}"}
+            day = days.Day("one", days.Settings(words=words))
+            before = contents.basis(day, "schedule")
+            self.assertEqual(len(before["named"]), 1)
+            write(f"{self.room}/{file}", "22")
+            self.assertNotEqual(contents.basis(day, "schedule")["named"], before["named"])
+
     def test_a_dry_run_changes_nothing(self) -> None:
         self.days("one", "two")
         is_right, said = self.run_all("-n")

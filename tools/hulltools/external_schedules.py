@@ -66,7 +66,10 @@ DIGITS = re.compile("[0-9]{1,18}")
 # A time with its offset from UTC, which goes back by an hour where summer ends; and one by a clock of 12 hours, which begins at 12.
 DATE, TIME = "([0-9]{4})-([0-9]{2})-([0-9]{2})", "([0-9]{2}):([0-9]{2})(?::([0-9]{2})(?:\\.0+)?)?"
 STAMP = re.compile(rf"{DATE}[T ]{TIME} ?(?:Z|([+-])([0-9]{{2}}):?([0-9]{{2}})?)(?:\[[^\]]*\])?")
-YEAR_FIRST, PLAIN_NUMBER = re.compile("[0-9]{4}"), re.compile("[0-9]+")  # keys whose numbers rise with the time
+# Keys whose numbers rise with the time: dates, with a time or without; whole numbers.
+YEAR_FIRST = re.compile(rf"[0-9]{{4}}([-/])[0-9]{{2}}\1[0-9]{{2}}(?:[T ]{TIME})?|[0-9]{{8}}T[0-9]{{4}}(?:[0-9]{{2}})?")
+MONTH = re.compile("(?<![a-z])(?:jan|feb|mar|apr|may|jun|jul|aug|sep|oct|nov|dec)", re.IGNORECASE)
+PLAIN_NUMBER, TIME_OF_DAY = re.compile("[0-9]+"), re.compile("[0-9]{1,2}:[0-9]{2}(?::[0-9]{2})?")
 TWELVE_HOURS = re.compile(r"(?<![a-z])[ap]\.?m\b", re.IGNORECASE)
 
 
@@ -112,13 +115,23 @@ def in_order_of_time(keys: List[str], where: str) -> List[str]:
     for one, other in zip(order, order[1:]):
         if known[one] == known[other] if known else digits[one] == digits[other]:
             raise HullError(f"{where}: {one_line(one)!r} and {one_line(other)!r} are one time")
+    if not (known or all(map(YEAR_FIRST.fullmatch, keys))):
+        refuse_other_dates(keys, digits, where)
     # (the numbers of other texts need not rise with the time, as those of a day's hours do not at midnight)
-    is_sure = known or order == keys or all(map(YEAR_FIRST.match, keys)) or all(map(PLAIN_NUMBER.fullmatch, keys))
+    is_sure = known or order == keys or all(map(YEAR_FIRST.fullmatch, keys)) or all(map(PLAIN_NUMBER.fullmatch, keys))
     if not is_sure:
         odd = next(key for key, other in zip(keys, order) if key != other)
         due = "dates that begin with the year or whole numbers without a sign are due"
         raise HullError(f"{where}: the order isn't sure from {one_line(odd)!r} on: {due}")
     return order
+
+
+def refuse_other_dates(keys: List[str], digits: Dict[str, List[int]], where: str) -> None:
+    """Refuses dates in other forms, and times with an offset in them: such texts may stand in order as texts, and not as times."""
+    for key in keys:
+        if len(digits[key]) > 2 and not TIME_OF_DAY.fullmatch(key) or MONTH.search(key):
+            due = "a date is due as 2026-10-25T02:00, with its offset behind it if it has one"
+            raise HullError(f"{where}: {one_line(key)!r} isn't read as a time: {due}")
 
 
 def numbers(value: Any, periods: int, name: str, where: str) -> List[float]:

@@ -235,8 +235,9 @@ def nearness(priced: AnyPriced, certificate: Optional[Certificate], is_own: bool
     gap = money(priced.gap)
     if certificate is None and isinstance(priced, Convex):
         return (
-            f"No prices need less than {money(priced.least)} of payments and surplus for this schedule; these need {gap}, and their dual value is "
-            f"within {money(priced.distance)} of the greatest."
+            f"Payments and surplus are {gap} together. By the bound in this text, no whole prices within the limits need less than "
+            f"{money(priced.least)} for this schedule, and the dual value of these is within {money(priced.distance)} of the greatest. This page "
+            "takes the bound from the text: --mixture, with the mixture in it, has hull certify work it out."
         )
     if certificate is None:
         return (

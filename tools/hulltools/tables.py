@@ -105,9 +105,7 @@ def told_apart_count(tables: dict[str, Table]) -> int:
 
 PER_MW = "_currency_per_mw"
 MOST_HOURS = 10_000
-YEAR_FIRST = re.compile(
-    r"\s*[0-9]{4}(?![0-9:])|\s*[0-9]{8}(?![0-9])"
-)  # (pandas would take others too, as a time of today)
+UTC = re.compile(r"[zZ]\Z")  # (as a time ends; Python reads it from 3.11 on)
 NUMBERS = ("budget", "ahead", "proposals", "chosen", "proposal", "periods", "units", "scheduled_on")  # without an end
 HEADS = {
     "runs": "report command side periods units budget ahead proposals chosen cost:money value:money payments:money "
@@ -214,22 +212,33 @@ def frames_of(
             if head.endswith(PER_MW):
                 frame[f"{head}h"] = frame[head] / hours
         if start is not None and "period" in frame:
-            times = start_of(pandas, start) + (frame["period"] - 1) * pandas.Timedelta(hours=hours)
-            frame.index = pandas.DatetimeIndex(times, name="time")
+            frame.index = times_of(pandas, start_of(pandas, start), frame["period"], hours)
         found[name] = frame
     return found
 
 
+def times_of(pandas: Any, start: Any, periods: Any, hours: float) -> Any:
+    """When the periods begin."""
+    try:
+        return pandas.DatetimeIndex(start + (periods - 1) * pandas.Timedelta(hours=hours), name="time")
+    except (ValueError, OverflowError):
+        raise HullError(f"start is {told_value(start)}: the periods end behind the last time that pandas has") from None
+
+
 def start_of(pandas: Any, start: Start) -> Any:
     """When the first period begins, as pandas has it."""
-    is_none = is_number_text(start) or isinstance(start, str) and not YEAR_FIRST.match(start)
     try:
-        found = pandas.NaT if is_none else pandas.Timestamp(start)
-    except (TypeError, ValueError):
+        found = pandas.NaT if is_number_text(start) else pandas.Timestamp(time_of(start))
+    except (TypeError, ValueError, OverflowError):
         found = pandas.NaT
     if found is pandas.NaT:
         raise HullError(f"start is {told_value(start)}: a time is due, as 2026-07-01T00:00")
     return found
+
+
+def time_of(start: Any) -> Any:
+    """The time that a text says: pandas would take others too, as the time of today, and read UTC+2 as two hours behind."""
+    return datetime.fromisoformat(UTC.sub("+00:00", start.strip())) if isinstance(start, str) else start
 
 
 def is_number_text(start: object) -> bool:

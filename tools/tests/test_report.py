@@ -383,6 +383,18 @@ class Report(unittest.TestCase):
         with mock.patch.object(sys, "stdin", io.TextIOWrapper(io.BytesIO(b"hull" + b"\0" * 5_000_000))):
             self.assertEqual(len(read_bytes("-", "a text", 2**31, b"hull-")), 1 << 20)
 
+    def test_a_page_of_convex_hull_prices_says_whose_word_the_bound_is(self):
+        page, folder = f"{self.room}/page.html", f"{EXAMPLES}/evening"
+        text = f"{EXAMPLES}/convex/evening.output"
+        self.assertEqual(run("report.py", "page", text, page)[0], 0)
+        with open(page, encoding="utf-8") as file:
+            self.assertIn("This page takes the bound from the text: --mixture", file.read())
+        self.assertEqual(run("report.py", "mixture", text, f"{self.room}/mixture.json")[0], 0)
+        words = ["--case", f"{folder}/case.json", "--schedule", f"{folder}/schedule.json", "--hull", PROGRAM]
+        self.assertEqual(run("report.py", "page", text, page, *words, "--mixture", f"{self.room}/mixture.json")[0], 0)
+        with open(page, encoding="utf-8") as file:
+            self.assertIn("No whole prices within the limits need less than", file.read())
+
     def test_what_is_no_report_is_told_in_one_line(self):
         self.assertEqual(
             self.report("csv", f"{self.room}/none", "tables"),

@@ -110,7 +110,8 @@ class Columns(unittest.TestCase):
 
     def test_times_that_are_none(self):
         odd = ("tomorrow", "now", "12:00", "July 2026", "Wed 01/07/2026", "01/07/2026", "1.7.2026 00:00", "29.03.2026")
-        for start in (*odd, "", 5, "5", float("nan"), "2026", "20:26"):
+        zones = "2026-07-01 00:00 UTC+2", "2026-07-01T00:00UTC+02:00", "2026-07-01 00:00 CET", "2026-07-01T00:00+26:00"
+        for start in (*odd, *zones, "", 5, "5", float("nan"), "2026", "20:26", "99999-01-01"):
             with warnings.catch_warnings(), self.assertRaisesRegex(
                 hulltools.HullError, "^start is .*: a time is due, as 2026-07-01T00:00$"
             ):
@@ -119,6 +120,13 @@ class Columns(unittest.TestCase):
         for hours in (0, -1, "x"):
             with self.assertRaisesRegex(hulltools.HullError, "^hours_per_period is .*: a number above 0"):
                 settled(98).frames(hours_per_period=hours)
+
+    def test_times_with_an_offset(self):
+        for start in ("2026-07-01T00:00+02:00", "2026-06-30 22:00Z", " 2026-06-30T22:00:00+00:00 "):
+            time = settled(98).frames(start=start)["prices"].index[0]
+            self.assertEqual(time.tz_convert("UTC").isoformat(), "2026-06-30T22:00:00+00:00")
+        with self.assertRaisesRegex(hulltools.HullError, "the periods end behind the last time that pandas has$"):
+            hulltools.per_mwh([30] * 9).frame("2262-04-11T23:00")
 
     def test_prices_of_one_number_have_a_frame_of_given_periods(self):
         frame = hulltools.per_mwh(30, 2).frame(periods=3)

@@ -154,9 +154,26 @@ def write_record(name: str, record: Mapping[str, Any]) -> None:
     write_whole(name, (json.dumps(record, indent=1) + "\n").encode())
 
 
+def named_sums(day: Day, step: str) -> Dict[str, str]:
+    """Sums of the files that the step's words name, as --follow does; of a folder a sum of all in it."""
+    names = {word.split("=", 1)[-1] if word.startswith("--") else word for word in day.settings.words_of(step)}
+    found = {name: sum_of(name, is_input=True) or sum_of_folder(name) for name in names}
+    return {name: known for name, known in sorted(found.items()) if known}
+
+
+def sum_of_folder(name: str) -> Optional[str]:
+    if not os.path.isdir(name):
+        return None
+    try:
+        files = [f"{file} {sum_of(os.path.join(name, file), is_input=True)}\n" for file in sorted(os.listdir(name))]
+    except OSError:
+        return None
+    return hashlib.sha256("".join(files).encode("utf-8", "surrogateescape")).hexdigest()
+
+
 def basis(day: Day, step: str) -> Dict[str, Any]:
-    """What a step's result follows from: sums of its inputs, and its words."""
-    return {"of": input_sums(day, step), "words": day.settings.words_of(step)}
+    """What a step's result follows from: sums of its inputs, its words, and sums of the files that these name."""
+    return {"of": input_sums(day, step), "words": day.settings.words_of(step), "named": named_sums(day, step)}
 
 
 def why_not_current(day: Day, step: str) -> Optional[str]:
@@ -170,6 +187,8 @@ def why_not_current(day: Day, step: str) -> Optional[str]:
             return f"{STEPS[step].makes[0]} was made of another {what}"
     if record.get("words") != day.settings.words_of(step):
         return f"{STEPS[step].makes[0]} was made with other words"
+    if record.get("named", {}) != named_sums(day, step):
+        return f"{STEPS[step].makes[0]} was made of other files that its words name"
     if record.get("made") != made:
         return f"{next(file for file in made if made[file] != record.get('made', {}).get(file))} was changed afterwards"
     if step == "audit" and not is_marked(day):
