@@ -1,4 +1,5 @@
 """A case as its file, exact to the kilowatt and the millionth, and cases that are changed in one respect."""
+import re
 from collections.abc import Iterable, Mapping, Sequence
 from dataclasses import replace
 from decimal import Decimal
@@ -11,6 +12,9 @@ from .errors import HullError, is_tool_at_work, one_line
 from .json_texts import json_text
 from .numbers import Kilowatts, Millionths, decimal_text
 from .options import hint_of, is_flag, is_list, is_plain, member, told_value
+
+
+LONG = re.compile(r"[eE][+-]?0*[1-9][0-9]{3}")  # an exponent that no file has
 
 
 def megawatts(number: int) -> Decimal:
@@ -68,7 +72,8 @@ def times(numbers: Iterable[int], factor: Fraction) -> list[int]:
 def factor_of(number: Factor, what: str) -> Fraction:
     """A factor as it is written: 1.01 is 101/100."""
     try:
-        found = Fraction(str(number)) if is_plain(number) and not is_flag(number) else Fraction(-1)
+        is_short = is_plain(number) and not is_flag(number) and not LONG.search(str(number))
+        found = Fraction(str(number)) if is_short else Fraction(-1)
     except (ValueError, ZeroDivisionError):
         found = Fraction(-1)
     if found < 0:

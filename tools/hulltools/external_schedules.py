@@ -70,7 +70,7 @@ STAMP = re.compile(rf"{DATE}[T ]{TIME} ?(?:Z|([+-])([0-9]{{2}}):?([0-9]{{2}})?)(
 YEAR_FIRST = re.compile(rf"[0-9]{{4}}([-/])[0-9]{{2}}\1[0-9]{{2}}(?:[T ]{TIME})?|[0-9]{{8}}T[0-9]{{4}}(?:[0-9]{{2}})?")
 MONTH = re.compile("(?<![a-z])(?:jan|feb|mar|apr|may|jun|jul|aug|sep|oct|nov|dec)", re.IGNORECASE)
 PLAIN_NUMBER, TIME_OF_DAY = re.compile("[0-9]+"), re.compile("[0-9]{1,2}:[0-9]{2}(?::[0-9]{2})?")
-TWELVE_HOURS = re.compile(r"(?<![a-z])[ap]\.?m\b", re.IGNORECASE)
+TWELVE_HOURS = re.compile(r"(?<![a-z])[ap]\.?\s?m\b|[0-9]\s?[ap]\b", re.IGNORECASE)
 
 
 def number(value: Any, name: str, where: str) -> float:
@@ -145,15 +145,25 @@ def numbers(value: Any, periods: int, name: str, where: str) -> List[float]:
     return [number(it, name, where) for it in value]
 
 
-def refuse_other_keys(lists: Mapping[str, Any], name: str, unit: str) -> None:
-    """Refuses lists of a unit by period or by time whose keys differ, as 1 to 4 and 0 to 3, since they would be matched by their places."""
-    plain = {key: it["values"] if isinstance(it, dict) and "values" in it else it for key, it in lists.items()}
-    keyed = [(key, it) for key, it in plain.items() if isinstance(it, dict)]
-    for key, numbers in keyed[1:]:
-        odd = next(iter(sorted(numbers.keys() ^ keyed[0][1].keys())), None)
-        if odd is not None:
-            first = f"{one_line(unit)}: {keyed[0][0]} and {key}"
-            raise HullError(f"{name}: {first} aren't of the same periods: {one_line(odd)!r} is in one of them alone")
+class Keyed:
+    """The keys of the first list of a file that is by period or by time."""
+
+    def __init__(self, name: str) -> None:
+        self.name, self.first, self.keys = name, ("", ""), set[str]()
+
+    def refuse_others(self, unit: str, lists: Mapping[str, Any]) -> None:
+        """Refuses lists whose keys are others than those of the first one, as 1 to 4 and 0 to 3: they would be matched by their places."""
+        plain = {key: it["values"] if isinstance(it, dict) and "values" in it else it for key, it in lists.items()}
+        for key, numbers in plain.items():
+            if not isinstance(numbers, dict):
+                continue
+            if not self.keys:
+                self.first, self.keys = (unit, key), set(numbers)
+            odd = next(iter(sorted(self.keys ^ numbers.keys())), None)
+            if odd is not None:
+                one, other = (f"{one_line(it[0])}, {one_line(it[1])}" for it in (self.first, (unit, key)))
+                told = f"{one} and {other} aren't of the same periods: {one_line(odd)!r} is in one of them alone"
+                raise HullError(f"{self.name}: {told}")
 
 
 def refuse_otherwise_written(found: Iterable[str], name: str, known: Iterable[str]) -> None:
@@ -238,7 +248,7 @@ def followed_value(value: Any, name: str, periods: int) -> Followed:
     if not isinstance(value, dict):
         raise HullError(f"{name}: an object is due")
     units, keys = units_of(value, name)
-    found = Followed(kinds=kinds_of(value, name))
+    found, keyed = Followed(kinds=kinds_of(value, name)), Keyed(name)
     for unit, row in units.items():
         if isinstance(row, dict):
             refuse_otherwise_written(
@@ -252,7 +262,7 @@ def followed_value(value: Any, name: str, periods: int) -> Followed:
             if key is not None and (keys is PLAIN or row[key] is not None):
                 lists[key] = row[key]
                 getattr(found, what)[unit] = numbers(row[key], periods, name, f"{unit}, {key}")
-        refuse_other_keys(lists, name, unit)
+        keyed.refuse_others(unit, lists)
     return found
 
 

@@ -375,10 +375,11 @@ def skipped(words: Sequence[str], files: Sequence[str]) -> Set[str]:
     known = {it.key: it.name for it in (*LISTS, ZONAL)}
     known.update({key_of(name): name for name in files})
     keys = {told: key for key, name in known.items() for told in (name, key)}
-    wrong = next((it for it in words if it.strip() not in keys), None)
+    names = [it.strip() for word in words for it in ([word] if word.strip() in keys else word.split(","))]
+    wrong = next((it for it in names if it not in keys), None)
     if wrong is not None:
         raise HullError(f"--skip {one_line(wrong)}: there is no such list: these are {', '.join(known)}")
-    return {keys[it.strip()] for it in words}
+    return {keys[it] for it in names}
 
 
 def plain_name(name: str) -> str:

@@ -93,15 +93,16 @@ class ExternalSchedules(unittest.TestCase):
         on, power = {"1": 1, "2": 0}, {"0": 20, "1": 0}
         why = "aren't of the same periods: '0' is in one of them alone"
         for value, due in (
-            ({"thermal": {"G1": {"on": on, "power": power}}}, f"plan.json: G1: on and power {why}"),
+            ({"thermal": {"G1": {"on": on, "power": power}}}, f"plan.json: G1, on and G1, power {why}"),
             (
                 {"Is on": {"G1": on}, "Thermal production (MW)": {"G1": power}},
-                f"plan.json: G1: Is on and Thermal production (MW) {why}",
+                f"plan.json: G1, Is on and G1, Thermal production (MW) {why}",
             ),
             (
                 {"elements": {"generator": {"G1": {"commitment": {"values": on}, "pg": {"values": power}}}}},
-                f"plan.json: G1: commitment and pg {why}",
+                f"plan.json: G1, commitment and G1, pg {why}",
             ),
+            ({"thermal": {"G1": {"on": on}, "G2": {"on": power}}}, f"plan.json: G1, on and G2, on {why}"),
         ):
             with self.assertRaises(HullError) as found:
                 followed_json(json.dumps(value).encode(), "plan.json", 2)

@@ -434,7 +434,7 @@ class Studies(Room):
         self.assertEqual((row["gap_currency"], row["gap_duality_currency"]), ("1200", ""))
 
     def test_lists_are_skipped_by_key_and_by_name(self) -> None:
-        self.run_study("--skip", "LMP,Convex hull (certified)", "--skip", "elmp")
+        self.run_study("--skip", "LMP,Convex hull (certified)", "--skip", "elmp", "--skip", "Subgradient 1,000")
         self.assertEqual([it for it in self.names() if it.endswith(".prices.json")], ["relaxation.prices.json"])
         self.assertIn("Left out by --skip: LMP, ELMP, Convex hull (certified).", read(f"{self.room}/st/study.html"))
 

@@ -345,6 +345,12 @@ class Options(Refusals):
             )
         )
 
+    def test_a_factor_of_many_digits(self):
+        for factor in ("1e-99999999", Decimal("1e-9999999"), "1E+1000"):
+            self.refused(
+                f"the factor of demand is {factor}: a number of at least 0 is due", usual()[0].scaled, demand=factor
+            )
+
     def test_a_case_of_fractions(self):
         """A number that a script has put into a case is told with its unit and its period."""
         due = "a whole number of kilowatts is due"

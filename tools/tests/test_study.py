@@ -153,11 +153,15 @@ class FastUnits(unittest.TestCase):
             (["--fast-start", ""], ()),
             (["--fast-start", "A,B"], ("A", "B")),
             (["--fast-start", 'A,"B, old","""C"""'], ("A", "B, old", '"C"')),
+            (["--fast-start", "A", "--fast-start=B,C"], ("A", "B", "C")),
             ([], None),
         ):
             ask = argparse.ArgumentParser()
             add_fast_start(ask)
             self.assertEqual(fast_start(ask.parse_args(words)).names, names)
+        self.assertEqual(fast_start(ask.parse_args(["--fast-start-up", "3"])).most_up, 3)
+        with self.assertRaisesRegex(hulltools.HullError, "^--fast-start is given, and --fast-start-up"):
+            fast_start(ask.parse_args(["--fast-start", "A", "--fast-start-up", "3"]))
 
 
 class Money(unittest.TestCase):

@@ -106,7 +106,7 @@ def arguments(words: Sequence[str]) -> argparse.Namespace:
     best.add_argument("--no-schedule", action="store_true")
     ask.add_argument("--prices", type=named_file, action="append", default=[])
     ask.add_argument("--search", action="store_true")
-    ask.add_argument("--skip", type=lambda text: text.split(","), action="extend", default=[])
+    ask.add_argument("--skip", action="append", default=[])
     add_fast_start(ask)
     ask.add_argument("--rule", choices=tuple(RULES))
     for word in ("--title", "--currency"):

@@ -12,7 +12,7 @@ from typing import NoReturn, Optional, TypeVar, Union
 
 from ..fast_start import FastStart
 from ..numbers import millionths
-from ..errors import Tell, told_with
+from ..errors import HullError, Tell, told_with
 from ..options import MOST_SECONDS, float_of, is_plain
 from ..outputs import ROUNDS, WITHIN
 from ..prices import Prices
@@ -153,13 +153,18 @@ def names_of(text: str) -> list[str]:
 
 def add_fast_start(ask: argparse.ArgumentParser) -> None:
     """The words that say which units are fast-start."""
-    ask.add_argument("--fast-start", type=names_of)
-    ask.add_argument("--fast-start-up", type=count, default=FastStart.most_up)
+    ask.add_argument("--fast-start", type=names_of, action="extend")
+    ask.add_argument("--fast-start-up", type=count)
     ask.add_argument("--fast-start-cost", type=positive)
     ask.add_argument("--online-only", action="store_true")
 
 
 def fast_start(given: argparse.Namespace) -> FastStart:
     names = None if given.fast_start is None else tuple(given.fast_start)
+    rule = (given.fast_start_up, given.fast_start_cost)
+    if names is not None and any(it is not None for it in rule):
+        raise HullError(
+            "--fast-start is given, and --fast-start-up or --fast-start-cost, which are a rule in place of names"
+        )
     cost = None if given.fast_start_cost is None else millionths(str(given.fast_start_cost))
-    return FastStart(names, given.fast_start_up, cost, given.online_only)
+    return FastStart(names, given.fast_start_up or FastStart.most_up, cost, given.online_only)
