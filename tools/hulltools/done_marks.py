@@ -24,7 +24,18 @@ KEY_BYTES, MOST_BYTES = 32, 1 << 20
 def state_folder() -> str:
     """Where what is the user's own lies. A name from the folder at hand is none of these: anybody may have made that."""
     named = os.environ.get("XDG_STATE_HOME", "")
-    return named if os.path.isabs(named) else os.path.join(os.path.expanduser("~"), ".local", "state")
+    return named if os.path.isabs(named) else os.path.join(home_folder(), ".local", "state")
+
+
+def home_folder() -> str:
+    """The user's home; the one that the system knows where HOME names one from the folder at hand."""
+    home = os.path.expanduser("~")
+    if not os.path.isabs(home):
+        with contextlib.suppress(ImportError, KeyError):  # (not every system has users)
+            import pwd
+
+            home = pwd.getpwuid(os.getuid()).pw_dir
+    return home
 
 
 def key_file() -> str:

@@ -326,6 +326,8 @@ class Done(InFolder):
         self.assertIsNone(done_marks.read_key(done_marks.key_file()))
 
     def test_without_a_home_no_mark_holds_in_a_later_run(self) -> None:
+        with mock.patch.dict(os.environ, XDG_STATE_HOME=".", HOME="."):
+            self.assertTrue(os.path.isabs(done_marks.state_folder()))
         with mock.patch.dict(os.environ, XDG_STATE_HOME="/dev/null"):
             self.made(done=done_marks.done_text(self.WORK, self.sums))
             self.assertEqual(self.done(), self.sums)

@@ -883,6 +883,23 @@ class Sweep(unittest.TestCase):
             self.assertEqual((status, "base isn't done: the same words make it anew" in said), (1, True), said)
         self.assertTrue(os.path.exists(f"{self.room}/base/lmp.prices.json"))
 
+    def test_a_file_of_the_words_that_is_changed_meanwhile(self):
+        prices, program = f"{self.room}.p.json", f"{self.room}.sh"
+        for name in (prices, program):
+            self.addCleanup(os.unlink, name)
+        with open(prices, "w", encoding="utf-8") as file:
+            file.write('{"energy": [100]}')
+        with open(program, "w", encoding="utf-8") as file:  # (the second scenario finds other prices)
+            change = f"""[ ! -e {self.room}/base/table.csv ] || echo '{{"energy": [5]}}' >{prices}"""
+            file.write(f'#!/bin/sh\n{change}\nexec {PROGRAM} "$@"\n')
+        os.chmod(program, 0o755)
+        rest = ["--", "--prices", f"P={prices}", "--skip", "convex_hull,relaxation,elmp"]
+        words = ["sweep.py", *files("dear_schedule")[:1], self.room, "--hull", program, "--demand=+1%,+2%", *rest]
+        status, _, said = run(*words)
+        self.assertEqual((status, "so there is no table of all: sweep again" in said), (1, True), said)
+        self.assertFalse(os.path.exists(f"{self.room}/sweep.csv"))
+        self.assertEqual(run(*words)[0], 0)
+
     def test_a_fast_start_unit_may_be_out(self):
         words = ["--outage", "PEAKER", "--", "--fast-start", "PEAKER,BLOCK", "--skip", "convex_hull"]
         status, said = self.sweep(*words)

@@ -85,12 +85,16 @@ def files_read(given: argparse.Namespace) -> list[str]:
     return inputs_of(study_arguments([given.case, given.folder, *given.more]))
 
 
+def sums_of_named(names: Sequence[str]) -> dict[str, str]:
+    """The sums of the files that words name."""
+    return {name: sha256_of(name) for name in names if os.path.isfile(name)}
+
+
 def work_of(case: str, words: Sequence[str], inputs: Sequence[str], program: Sequence[str]) -> Mark:
     """What a scenario's files are made of, and by which program."""
-    sums = {name: sha256_of(name) for name in inputs if os.path.isfile(name)}
     total = hashlib.sha256(case.encode()).hexdigest()
     made_by = {"tool": SWEEP, "version": __version__, "program": list(program)}
-    return {**made_by, "case": total, "words": list(words), "inputs": sums}
+    return {**made_by, "case": total, "words": list(words), "inputs": sums_of_named(inputs)}
 
 
 def folder_of(folder: str, scenario: Scenario, inputs: Sequence[str]) -> StudyFolder:
@@ -214,12 +218,20 @@ class Sweep:
         begin_sweep(self.given.folder, self.inputs)
 
     def look_again(self) -> None:
-        """Takes the tables that lie there now. Where another sweep of this folder made a scenario anew there is no table of all."""
+        """Takes the tables that lie there now. Where another sweep made a scenario anew, or a file that the words name changed, there is no table of all."""
+        sums = sums_of_named(self.inputs[1:])
         for name, (folder, work) in self.works.items():
             table = table_done(folder, work)
-            if table is None:
+            why = (
+                "this"
+                if table is None
+                else "a file of the words, of which this was made,"
+                if work["inputs"] != sums
+                else ""
+            )
+            if table is None or why:
                 self.begin()
-                raise HullError(f"{folder}: this was changed meanwhile, so there is no table of all: sweep again")
+                raise HullError(f"{folder}: {why} was changed meanwhile, so there is no table of all: sweep again")
             self.tables[name] = table
 
     def write(self, unfinished: str = "") -> None:
