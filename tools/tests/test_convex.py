@@ -112,7 +112,7 @@ class ByHand(Room):
         self.assertIn("hull-convex", text_by_hand())
         self.assertIn(",convex,,1,5,,,,,3550,2900,650,500,150,0,650,,2900,0,650", self.read("runs.csv"))
         self.assertEqual(run("report.py", "page", text, f"{self.room}/page.html"), (0, "", ""))
-        self.assertIn("their dual value is within 0.00 of the greatest", self.read("page.html"))
+        self.assertIn("the dual value of these is within 0.00 of the greatest", self.read("page.html"))
         status, _, said = run("report.py", "mixture", f"{FOLDER}/settle.output", f"{self.room}/none.json")
         self.assertEqual((status, os.path.exists(f"{self.room}/none.json")), (1, False))
         self.assertIn("this is a text of `hull settle`, where a text of `hull convex` is due", said)
