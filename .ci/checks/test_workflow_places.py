@@ -215,12 +215,14 @@ class OfTheUser(Workflow):
         os.mkdir(f"{self.room}/network")
         for word, file in (("--follow ", "plan.json"), ("--follow=", "plan.json"), ("--follow ", "network/loads.csv")):
             write(f"{self.room}/{file}", "1")
-            words = {"schedule": f"--gap 0.1 {word}{self.room}/{file.split('/')[0]}"}
+            write(f"{self.room}/table", word)  # (which the step writes)
+            words = {"schedule": f"{word}{self.room}/{file.split('/')[0]} --deviations {self.room}/table"}
             day = days.Day("one", days.Settings(words=words))
             before = contents.basis(day, "schedule")
             self.assertEqual(len(before["named"]), 1)
             write(f"{self.room}/{file}", "22")
             self.assertNotEqual(contents.basis(day, "schedule")["named"], before["named"])
+            self.assertEqual(contents.basis(day, "report")["named"], {})
 
     def test_a_dry_run_changes_nothing(self) -> None:
         self.days("one", "two")

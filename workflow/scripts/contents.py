@@ -10,7 +10,7 @@ import json
 import os
 import tempfile
 import time
-from typing import Any, Callable, Dict, Iterator, Mapping, Optional, Tuple
+from typing import Any, Callable, Dict, Iterator, List, Mapping, Optional, Tuple
 
 from days import STEPS, Day, Settings
 from hulltools.errors import HullError, one_line
@@ -154,11 +154,18 @@ def write_record(name: str, record: Mapping[str, Any]) -> None:
     write_whole(name, (json.dumps(record, indent=1) + "\n").encode())
 
 
-def named_sums(day: Day, step: str) -> Dict[str, str]:
-    """Sums of the files that the step's words name, as --follow does; of a folder a sum of all in it."""
-    names = {word.split("=", 1)[-1] if word.startswith("--") else word for word in day.settings.words_of(step)}
-    found = {name: sum_of(name, is_input=True) or sum_of_folder(name) for name in names}
-    return {name: known for name, known in sorted(found.items()) if known}
+def followed_names(words: List[str]) -> Iterator[str]:
+    """The files that words have a schedule follow: `--follow F`, `--follow=F`, or with the option cut short."""
+    for word, after in zip(words, [*words[1:], ""]):
+        option, mark, value = word.partition("=")
+        if len(option) > 2 and "--follow".startswith(option):
+            yield value if mark else after
+
+
+def named_sums(day: Day, step: str) -> Dict[str, Optional[str]]:
+    """Sums of the files that the step's words have it read; of a folder a sum of all in it."""
+    names = followed_names(day.settings.words_of(step))
+    return {name: sum_of(name, is_input=True) or sum_of_folder(name) for name in names}
 
 
 def sum_of_folder(name: str) -> Optional[str]:
@@ -172,7 +179,7 @@ def sum_of_folder(name: str) -> Optional[str]:
 
 
 def basis(day: Day, step: str) -> Dict[str, Any]:
-    """What a step's result follows from: sums of its inputs, its words, and sums of the files that these name."""
+    """What a step's result follows from: sums of its inputs, its words, and sums of the files that these have it read."""
     return {"of": input_sums(day, step), "words": day.settings.words_of(step), "named": named_sums(day, step)}
 
 
