@@ -14,6 +14,7 @@ KILOWATTS, MILLIONTHS = "kilowatts", "millionths"
 PER_KILOWATT = "millionths per kilowatt"
 POWERS = ("least", "most", "ramp_up", "ramp_down", "start_limit", "stop_limit", "power0")
 COUNTS, FLAGS = ("min_up", "min_down", "up0", "down0"), ("must_run", "on0")
+NO_NUMBERS = ("name", "thermal", "renewable", "bids")
 Whole = TypeVar("Whole", Case, Thermal, Renewable, Bid)
 Found = tuple[str, Any, str, Optional[int]]  # a member, its number, the unit of that, and the period
 
@@ -151,8 +152,8 @@ def whole_members(holder: Any) -> dict[str, Any]:
 
 
 def with_whole_members(holder: Whole) -> Whole:
-    changed = {name: it for name, it in whole_members(holder).items() if not is_plain_whole(getattr(holder, name))}
-    return replace(holder, **changed) if changed else holder
+    numbers = [member for name, member in vars(holder).items() if name not in NO_NUMBERS]
+    return holder if is_plain_whole(numbers) else replace(holder, **whole_members(holder))
 
 
 def with_plain_numbers(case: Case) -> Case:

@@ -215,11 +215,9 @@ def as_case(given: GivenCase) -> Case:
 def as_schedule(given: GivenSchedule, case: Case) -> Schedule:
     if isinstance(given, dict):
         return schedule_of(told("schedule"), value_of("schedule", given), case)
-    return (
-        read_schedule(given, case)
-        if is_name(given)
-        else cast(Schedule, object_of("schedule", given)).with_plain_numbers()
-    )
+    if is_name(given):
+        return read_schedule(given, case)
+    return cast(Schedule, object_of("schedule", given)).with_plain_numbers()
 
 
 def as_prices(given: GivenPrices, case: Case) -> Prices:

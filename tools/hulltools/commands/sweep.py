@@ -222,16 +222,10 @@ class Sweep:
         sums = sums_of_named(self.inputs[1:])
         for name, (folder, work) in self.works.items():
             table = table_done(folder, work)
-            why = (
-                "this"
-                if table is None
-                else "a file of the words, of which this was made,"
-                if work["inputs"] != sums
-                else ""
-            )
-            if table is None or why:
+            if table is None or work["inputs"] != sums:
                 self.begin()
-                raise HullError(f"{folder}: {why} was changed meanwhile, so there is no table of all: sweep again")
+                what = "this" if table is None else "a file that the words name"
+                raise HullError(f"{folder}: {what} was changed meanwhile, so there is no table of all: sweep again")
             self.tables[name] = table
 
     def write(self, unfinished: str = "") -> None:
