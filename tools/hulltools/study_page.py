@@ -173,16 +173,19 @@ def consumers_part(study: Study) -> str:
 def forced_part(study: Study) -> str:
     """Losses that a unit's own rules force, which are no part of a payment."""
     lists = study.paid()
-    forced: Dict[str, List[int]] = {}
-    reasons: Dict[str, str] = {}
+    forced: Dict[Tuple[str, str], List[int]] = {}  # (by kind too: units of two kinds may have one name)
+    reasons: Dict[Tuple[str, str], str] = {}
     for place, paid in enumerate(lists):
         for loss in forced_losses(study.case, paid.units):
-            reasons[loss.name] = loss.reason
-            forced.setdefault(loss.name, [0] * len(lists))[place] = loss.forced
+            reasons[loss.kind, loss.name] = loss.reason
+            forced.setdefault((loss.kind, loss.name), [0] * len(lists))[place] = loss.forced
     if not forced:
         return ""
-    rows = [row_of(shown(name), sums, f'<td class="text">{reasons[name]}</td>') for name, sums in forced.items()]
-    heads = ("*Name", "*Forced by", *(plain(it.list.name) for it in lists))
+    rows = []
+    for (kind, name), sums in forced.items():
+        texts = "".join(f'<td class="text">{it}</td>' for it in (KIND_NAMES[kind], reasons[kind, name]))
+        rows.append(row_of(shown(name), sums, texts))
+    heads = ("*Name", "*Kind", "*Forced by", *(plain(it.list.name) for it in lists))
     return (
         "<h2>Forced losses</h2><p>These units lose at the prices whatever they do within their rules. No payment above covers the forced loss. Many markets make a "
         "unit whole for it where a reliability commitment is the reason, and not where it schedules itself.</p>"

@@ -3,15 +3,18 @@ import argparse
 import csv
 import json
 import os
+import re
 import tempfile
 import unittest
 from datetime import datetime
 from decimal import Decimal
 from fractions import Fraction
+from types import SimpleNamespace
 
 from tool import EXAMPLES, PROGRAM, run
 
 import hulltools
+from hulltools.cases import Renewable
 from hulltools.cash_flows import total, unit_flows, uplift_by_period
 from hulltools.clock import Clock
 from hulltools.commands.words import add_fast_start, fast_start
@@ -19,7 +22,10 @@ from hulltools.comparing import differences, statement_of
 from hulltools.day_lengths import changed_day, clock_change
 from hulltools.costs import Costs
 from hulltools.gap_parts import gap_parts
+from hulltools.price_lists import LMP
 from hulltools.settlement_rules import bill, forced_losses, paid_by_kind
+from hulltools.studies import Paid
+from hulltools.study_page import forced_part
 from hulltools.sweeping import without_unit
 from hulltools.outputs import Owed
 from hulltools.tables import Table
@@ -206,6 +212,22 @@ class Money(unittest.TestCase):
         self.assertEqual(
             (found.name, found.reason, found.forced, found.made_whole), ("NUCLEAR", "must_run", *money_of(300, 0))
         )
+
+
+class ForcedLosses(unittest.TestCase):
+    def test_units_of_one_name_have_a_row_each(self):
+        """A thermal unit that must run and a renewable unit that must give, at a price below 0."""
+        case = hulltools.read_case(f"{FOLDER}/case.json")
+        case.renewable, case.bids = [Renewable("NUCLEAR", [1000], [1000])], []
+        losses = {("thermal", "NUCLEAR"): -300 * MILLION, ("renewable", "NUCLEAR"): -20 * MILLION}
+        units = [
+            Owed(kind, unit.name, *[losses.get((kind, unit.name), 0)] * 2, 0, [1], [1000], [0])
+            for kind, unit in case.units
+        ]
+        study = SimpleNamespace(case=case, paid=lambda: [Paid(LMP, units, [])])
+        page = re.sub("<[^>]*>", "|", forced_part(study))
+        self.assertRegex(page, r"NUCLEAR\|+thermal\|+must_run\|+300\.00\|")
+        self.assertRegex(page, r"NUCLEAR\|+renewable\|+least power\|+20\.00\|")
 
 
 class Reserve(unittest.TestCase):
