@@ -883,6 +883,22 @@ class Sweep(unittest.TestCase):
             self.assertEqual((status, "base isn't done: the same words make it anew" in said), (1, True), said)
         self.assertTrue(os.path.exists(f"{self.room}/base/lmp.prices.json"))
 
+    def test_a_list_that_took_too_long_is_told_by_each_run(self):
+        program = f"{self.room}.sh"
+        self.addCleanup(os.unlink, program)
+        with open(program, "w", encoding="utf-8") as file:
+            file.write(f'#!/bin/sh\n[ "$1 $2" != "convex --case" ] || exec sleep 30\nexec {PROGRAM} "$@"\n')
+        os.chmod(program, 0o755)
+        words = ["sweep.py", *files("dear_schedule")[:1], self.room, "--hull", program, "--", "--skip", "elmp"]
+        due = "Convex hull (certified) is left out: the outer limit of 3 s is over: hull convex"
+        for done in (0, 1):
+            status, _, said = run(*words, "--seconds", "3")
+            self.assertEqual((status, said.count("it is done; its study says:"), due in said), (3, done, True), said)
+        with open(f"{self.room}/base/lacks.txt", encoding="utf-8") as file:
+            self.assertIn(due, file.read())
+        self.assertEqual(self.sweep("--", "--skip", "elmp")[0], 0)
+        self.assertFalse(os.path.exists(f"{self.room}/base/lacks.txt"))
+
     def test_a_file_of_the_words_that_is_changed_meanwhile(self):
         prices, program = f"{self.room}.p.json", f"{self.room}.sh"
         for name in (prices, program):

@@ -14,6 +14,7 @@ usage: sweep.py CASE FOLDER [--demand P].. [--wind P].. [--offer NAME=P].. [--ou
 
 Each scenario gets a schedule of its own. A scenario that is done stays so: after an interrupt the same words go on with what is left, and what
 was made of another case, by other words or by another program is made anew. A scenario whose case can't be met is told and left out, with status 1 in the end.
+One of which a list took longer than --seconds, or has prices that were cut, is done too: each run tells it, and ends with status 3.
 A file that no sweep made is refused before anything is made, with status 2; one that was changed since gets another name, which is told.
 The table and picture of the sweep before go first. Where another sweep changes a scenario meanwhile there are none, with status 1. After Ctrl-C, TERM or HUP they have the scenarios that are done, and UNFINISHED.txt says so, with status
 130, 143 or 129; --seconds and --skip behind --
@@ -40,6 +41,7 @@ from ..errors import (
     NotOurs,
     Tell,
     heard_later,
+    one_line,
     run_tool,
     taken,
     write_together,
@@ -62,6 +64,8 @@ if TYPE_CHECKING:
 
 SWEEP = "sweep.py"
 CASE, TABLE, DONE = "case.json", "table.csv", "done.json"  # of each scenario
+LACKS = "lacks.txt"  # where a scenario is done without a list that took too long, or with prices that were cut: its study says so here
+SHORT = 3  # the status where there is a scenario of that kind
 GATHERED = ("sweep.csv", "sweep.svg")
 NOT_THERE = (
     "The table and the picture of this sweep aren't there: it is at work, or was ended, or left every scenario out."
@@ -109,6 +113,8 @@ def write_scenario(place: StudyFolder, study: Study, work: Mark) -> str:
     """Puts the files of a scenario's study in their places, with the mark that it is done if no list has failed; its table."""
     table = lists_table(study).text()
     write_whole(os.path.join(place.room, TABLE), table)
+    if study.is_short:
+        write_whole(os.path.join(place.room, LACKS), "".join(f"{one_line(it)}\n" for it in study.notes))
     sums = {name: sha256_in(place.room, name) for name in os.listdir(place.room) if name != OWN}
     if study.failure is None:
         write_whole(os.path.join(place.room, DONE), done_text(work, sums))
@@ -139,11 +145,18 @@ def table_done(folder: str, work: Mark) -> Optional[str]:
     return data.decode("utf-8") if hashlib.sha256(data).hexdigest() == due else None
 
 
+def lacks_of(folder: str, work: Mark) -> list[str]:
+    """In sentences what the study of a scenario that is done says of it, where a list took too long or its prices were cut."""
+    is_there = LACKS in files_done(work, folder, DONE)
+    return (bytes_in(folder, LACKS) or b"").decode("utf-8", "replace").splitlines() if is_there else []
+
+
 def table_of(folder: StudyFolder, case: str, words: Sequence[str], work: Mark, hull: Hull, tell: Tell) -> str:
     """The table of one scenario, made where it isn't there yet."""
     done = table_done(folder.folder, work)
     if done is not None:
-        tell(f"{folder.named}: it is done")
+        lacks = lacks_of(folder.folder, work)
+        tell(" ".join([f"{folder.named}: it is done{'; its study says:' if lacks else ''}", *lacks]))
         return done
     with folder as place, ExitStack() as until_written:
         study = make_scenario(place, case, words, hull, lambda text: tell(f"{place.named}: {text}"), until_written)
@@ -182,6 +195,7 @@ class Sweep:
             str, tuple[str, Mark]
         ] = {}  # by the name of a scenario that is done: its folder, and what it is made of
         self.left_out = 0
+        self.is_short = False  # (whether a scenario that is done lacks a list, or prices of it were cut)
 
     @cached_property
     def program(self) -> list[str]:
@@ -191,7 +205,7 @@ class Sweep:
     def refuse(self) -> None:
         """Refuses words and folders that can't be, before anything is made."""
         given = study_arguments([self.given.case, self.given.folder, *self.given.more])
-        names = [*files_of(wanted(given, self.case), True, True), CASE, DONE]
+        names = [*files_of(wanted(given, self.case), True, True), CASE, DONE, LACKS]
         StudyFolder(self.given.folder, self.inputs, SWEEP).refuse(GATHERED)
         for scenario in self.scenarios:
             scenario.change(self.case)
@@ -210,6 +224,7 @@ class Sweep:
                 self.tell(f"{scenario.name} isn't done: the same words make it anew")
             else:
                 self.works[scenario.name] = folder.folder, work
+                self.is_short = self.is_short or bool(lacks_of(folder.folder, work))
         except HullError as why:
             self.left_out += 1
             self.tell(f"{scenario.name} is left out: {why.line}")
@@ -250,7 +265,7 @@ def body(words: Sequence[str], tell: Tell) -> int:
         tell(f"interrupted: {of_all}; the same words go on with the others")
         return why.status
     sweep.write()
-    return 1 if sweep.left_out else 0
+    return 1 if sweep.left_out else SHORT if sweep.is_short else 0
 
 
 def main(words: Optional[Sequence[str]] = None) -> int:
