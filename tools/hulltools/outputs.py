@@ -573,6 +573,10 @@ def sums_of(text: Output) -> Iterator[tuple[str, int, int]]:
     if isinstance(text, Fixed):
         yield "the sum of payments", text.hull.payments, sum(of_hull for *_, of_hull, _ in text.units)
         yield "the sum of payments", text.fixed.payments, sum(of_fixed for *_, of_fixed in text.units)
+        sums = [side.payments + side.surplus for side in (text.hull, text.fixed)]
+        yield "the sum of payments and surplus", sums[0], text.cost - text.hull.value
+        # (units that are held have no better responses than the same units of the case as given)
+        yield "the sum of payments and surplus", sums[1], max(sums[1], text.cost - text.fixed.value)
 
 
 def need_sums(text: Output) -> None:

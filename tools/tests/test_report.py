@@ -236,6 +236,11 @@ class Report(unittest.TestCase):
         ]
         rows += [(CERTIFIED, "distance 37", "distance 36", "the distance is 36000000, and by the others 37000000")]
         rows += [(CERTIFIED, "least 127", "least 128", "the least is 128000000, and by the others 127000000")]
+        with open(f"{EXAMPLES}/two_units/fixed-2.output", encoding="utf-8") as file:
+            fixed = file.read()
+        both = "the sum of payments and surplus is"
+        rows += [(fixed, "surplus hull 0", "surplus hull 7", f"{both} 1007, and by the others 1000")]
+        rows += [(fixed, "value 3500", "value 1499", f"{both} 2000, and by the others 2001")]
         for text, old, new, why in rows:
             status, _, said = self.report("csv", self.write(text.replace(old, new)), "tables")
             due = f"report.py: {self.room}/report.txt: its numbers contradict each other: {why}\n"
