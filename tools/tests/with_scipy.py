@@ -254,6 +254,15 @@ class Study(unittest.TestCase):
             hulltools.check(f"{self.FOLDER}/case.json", f"{self.room}/best.schedule.json", PROGRAM), 3_150_000_000
         )
 
+    def test_a_best_schedule_that_costs_more_is_told(self):
+        dear, best = (f"{self.FOLDER}/{name}schedule.json" for name in ("", "best."))
+        words = ["--best-schedule", dear, "--skip", "convex_hull,elmp,relaxation", "--hull", PROGRAM]
+        self.assertEqual(run("study.py", f"{self.FOLDER}/case.json", self.room, "--schedule", best, *words)[0], 0)
+        (row,) = self.rows("table.csv")
+        due = "given; it costs 400.00 more than the schedule, which is the best one known"
+        self.assertEqual((row["gap_schedule_currency"], row["best_schedule_made"]), ("0", due))
+        self.assertIn(due, self.read("study.html"))
+
     def test_without_a_second_schedule_the_parts_are_not_told_apart(self):
         said = self.study("--no-schedule")
         self.assertEqual({row["gap_schedule_currency"] for row in self.rows("table.csv")}, {""})

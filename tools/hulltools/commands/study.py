@@ -51,7 +51,7 @@ import argparse
 import contextlib
 import os
 from collections.abc import Callable, Sequence
-from dataclasses import dataclass
+from dataclasses import dataclass, replace
 from types import SimpleNamespace
 from typing import TYPE_CHECKING, Optional
 
@@ -197,7 +197,16 @@ def schedules_of(given: argparse.Namespace, hull: Hull, room: str, tell: Tell) -
             tell(found.missing)
     elif not given.schedule:
         found.best_cost = found.cost
-    return found
+    return with_dearer_told(found)
+
+
+def with_dearer_told(found: Schedules) -> Schedules:
+    """The same; where the one that was to be the best costs more than the schedule itself, that is said of it."""
+    more = 0 if found.best_cost is None else found.best_cost - found.cost
+    if found.best is None or more <= 0:
+        return found
+    told = f"it costs {money(more)} more than the schedule, which is the best one known"
+    return replace(found, best=replace(found.best, made=f"{found.best.made}; {told}"))
 
 
 def study_of(
