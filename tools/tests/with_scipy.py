@@ -844,6 +844,14 @@ class Sweep(unittest.TestCase):
             status, _, said = run("sweep.py", *words)
             self.assertEqual((status, said.count("it is done")), (0, done), said)
 
+    def test_what_another_version_of_scipy_made_is_made_anew(self):
+        words = ("--", "--skip", "elmp,convex_hull")
+        self.assertEqual(self.sweep(*words)[0], 0)
+        with mock.patch("hulltools.commands.sweep.scipy_version", return_value="0.1"):
+            for done in (0, 1):
+                status, said = self.sweep(*words)
+                self.assertEqual((status, said.count("it is done")), (0, done), said)
+
     def test_no_table_of_the_sweep_before_stays(self):
         self.assertEqual(self.sweep("--", "--skip", "elmp")[0], 0)
         self.assertIn("sweep.svg", os.listdir(self.room))

@@ -13,7 +13,7 @@ usage: sweep.py CASE FOLDER [--demand P].. [--wind P].. [--offer NAME=P].. [--ou
   -- WORDS         what stands behind -- are words of study.py, as --search or --gap 0.001
 
 Each scenario gets a schedule of its own. A scenario that is done stays so: after an interrupt the same words go on with what is left, and what
-was made of another case, by other words or by another program is made anew. A scenario whose case can't be met is told and left out, with status 1 in the end.
+was made of another case, by other words, by another program or another version of SciPy is made anew. A scenario whose case can't be met is told and left out, with status 1 in the end.
 One of which a list took longer than --seconds, or has prices that were cut, is done too: each run tells it, and ends with status 3.
 A file that no sweep made is refused before anything is made, with status 2; one that was changed since gets another name, which is told.
 The table and picture of the sweep before go first. Where another sweep changes a scenario meanwhile there are none, with status 1. After Ctrl-C, TERM or HUP they have the scenarios that are done, and UNFINISHED.txt says so, with status
@@ -50,7 +50,7 @@ from ..errors import (
 from ..linear import need_scipy
 from ..progress import step
 from ..program import Hull
-from ..provenance import sha256_of
+from ..provenance import scipy_version, sha256_of
 from ..studies import files_of
 from ..study_folder import OWN, StudyFolder, bytes_in, sha256_in
 from ..study_tables import lists_table
@@ -97,7 +97,7 @@ def sums_of_named(names: Sequence[str]) -> dict[str, str]:
 def work_of(case: str, words: Sequence[str], inputs: Sequence[str], program: Sequence[str]) -> Mark:
     """What a scenario's files are made of, and by which program."""
     total = hashlib.sha256(case.encode()).hexdigest()
-    made_by = {"tool": SWEEP, "version": __version__, "program": list(program)}
+    made_by = {"tool": SWEEP, "version": __version__, "program": list(program), "scipy": scipy_version()}
     return {**made_by, "case": total, "words": list(words), "inputs": sums_of_named(inputs)}
 
 
