@@ -943,6 +943,11 @@ class Sweep(unittest.TestCase):
         status, said = self.sweep("--", "--fast-start", "NONE")
         self.assertEqual((status, said), (1, 'sweep.py: the case has no thermal unit "NONE"\n'))
 
+    def test_zones_are_refused_since_no_table_has_them(self):
+        status, said = self.sweep("--", "--zones", "zones.json")
+        self.assertEqual((status, os.path.exists(self.room)), (1, False))
+        self.assertIn("--zones: the tables of a sweep have no payments by zone", said)
+
     def test_changes_that_are_none(self):
         for words, due in (
             (["--demand=much"], "'much' is no change in per cent"),

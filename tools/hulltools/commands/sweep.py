@@ -205,6 +205,8 @@ class Sweep:
     def refuse(self) -> None:
         """Refuses words and folders that can't be, before anything is made."""
         given = study_arguments([self.given.case, self.given.folder, *self.given.more])
+        if given.zones:
+            raise HullError("--zones: the tables of a sweep have no payments by zone; study.py has them for one case")
         names = [*files_of(wanted(given, self.case), True, True), CASE, DONE, LACKS]
         StudyFolder(self.given.folder, self.inputs, SWEEP).refuse(GATHERED)
         for scenario in self.scenarios:
