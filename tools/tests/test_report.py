@@ -252,6 +252,12 @@ class Report(unittest.TestCase):
         due = f"report.py: {text} is named twice, and its rows in the tables would be one text's\n"
         self.assertEqual((status, said, os.path.exists(f"{self.room}/tables")), (1, due, False))
 
+    def test_tables_need_a_folder(self):
+        text = self.write(SETTLED)
+        status, _, said = run("report.py", "csv", f"{EXAMPLES}/usual/price.output", text)
+        due = f"report.py: {text}: this is a file: behind its texts csv takes the folder for the tables\n"
+        self.assertEqual((status, said, self.read("report.txt")), (1, due, SETTLED))
+
     def test_prices_of_a_report_and_of_a_settlement(self):
         for text in (f"{EXAMPLES}/usual/price.output", self.write(SETTLED)):
             self.assertEqual(self.report("prices", text, "prices.json"), (0, "", ""))

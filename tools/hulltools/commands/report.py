@@ -100,6 +100,8 @@ def refuse_one_name(names: Sequence[str]) -> None:
 
 def write_tables(given: argparse.Namespace, inputs: Sequence[str], tell: Tell) -> None:
     refuse_one_name(given.texts)
+    if os.path.isfile(given.to):
+        raise HullError(f"{given.to}: this is a file: behind its texts csv takes the folder for the tables")
     texts = [read_output(it) for it in given.texts]
     refuse_one_name([text.name for text in texts])
     case, schedule = case_and_schedule(given, texts)
