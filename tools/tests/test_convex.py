@@ -138,6 +138,14 @@ class ByHand(Room):
         self.assertEqual(self.read("prices.json"), '{"energy": [30], "reserve": [0]}\n')
         self.assertIn("--within 250000 --rounds 7", self.read("hull.words"))
 
+    def test_a_best_schedule_that_cannot_be_is_refused_before_the_search(self):
+        words = [*FILES, f"{self.room}/prices.json", f"{self.room}/mixture.json", "--hull", self.program()]
+        rows = ((f"{self.room}/none.json", "fault 2 read schedule"), (f"{EXAMPLES}/usual/schedule.json", "fault 4 "))
+        for name, due in rows:
+            status, _, said = run("convex_prices.py", *words, "--best-schedule", name)
+            self.assertEqual((status, due in said), (1, True), said)
+        self.assertNotIn("--case", self.read("hull.words") if "hull.words" in os.listdir(self.room) else "")
+
     def test_a_case_that_is_changed_meanwhile_is_refused(self):
         with open(FILES[0], encoding="utf-8") as file:
             case = self.write("case.json", file.read())

@@ -62,8 +62,9 @@ def body(words: Sequence[str], tell: Tell) -> None:
     if os.path.realpath(given.prices) == os.path.realpath(given.mixture):
         raise HullError(f"{given.mixture}: prices and mixture need a file each")
     hull, before = Hull(given.hull, tell, given.seconds), sums_of_files(inputs)
-    found = hull.convex(given.case, given.schedule, given.within, given.rounds)
+    # (what is refused behind the search would lose it)
     best_cost = hull.check(given.case, given.best_schedule) if given.best_schedule else None
+    found = hull.convex(given.case, given.schedule, given.within, given.rounds)
     refuse_changed(before, "the gap would be")
     parts = gap_parts(found.cost, found.value, found.bound, best_cost)
     texts = {given.prices: found.prices.text(), given.mixture: found.mixture.text()}
