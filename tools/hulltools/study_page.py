@@ -9,7 +9,7 @@ from .errors import one_line
 from .numbers import Millionths, money
 from .pages import DRAWING, MOST_NUMBERS, SORT, document, head_row, number_cell, shown
 from .settlement_rules import RULES, bill, forced_losses, paid, paid_by_kind
-from .studies import Settled, Study
+from .studies import Paid, Settled, Study
 from .study_style import COLOURS, STYLE, UNIT_LISTS
 
 KIND_COLOURS = {"thermal": "blue", "renewable": "green", "bid": "violet"}
@@ -255,13 +255,17 @@ def hours_part(study: Study) -> str:
     )
 
 
+def by_payment(lists: Sequence[Paid]) -> List[int]:
+    """The places of the units, those of the largest payment under a list first."""
+    return sorted(range(len(lists[0].units)), key=lambda i: -max(it.units[i].payment for it in lists))
+
+
 def units_part(study: Study) -> str:
     """What each unit is paid under each rule and list, with a picture of the unit that is clicked."""
     lists, rules = study.paid(), study.wanted.rules
     units = lists[0].units
-    order = sorted(range(len(units)), key=lambda i: -max(it.units[i].payment for it in lists))
     rows = []
-    for i in order:
+    for i in by_payment(lists):
         numbers = [paid(it.units[i], rule) for it in lists for rule in rules]
         kind = f'<td class="text">{KIND_NAMES[units[i].kind]}</td>'
         cells = "".join(number_cell(number, money(number)) for number in numbers)
@@ -321,9 +325,10 @@ def revenue_part(study: Study) -> str:
 
 
 def unit_lists(study: Study) -> Dict[int, Dict[str, Any]]:
-    """For each unit by its place the schedule and the responses, as far as the page holds them."""
-    lists, found, room = study.paid(), {}, MOST_NUMBERS
-    for i, (kind, unit) in enumerate(study.case.units):
+    """For each unit by its place the schedule and the responses, as far as the page holds them: the largest payments first."""
+    lists, units, found, room = study.paid(), study.case.units, {}, MOST_NUMBERS
+    for i in by_payment(lists):
+        kind, unit = units[i]
         plan, is_thermal = study.schedule.plan(kind, unit.name), kind == "thermal"
         schedule = {"scheduled": plan.power, **({"scheduledReserve": plan.reserve} if is_thermal else {})}
         responses = {}

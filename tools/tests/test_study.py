@@ -10,6 +10,7 @@ from datetime import datetime
 from decimal import Decimal
 from fractions import Fraction
 from types import SimpleNamespace
+from unittest import mock
 
 from tool import EXAMPLES, PROGRAM, run
 
@@ -25,7 +26,7 @@ from hulltools.gap_parts import gap_parts
 from hulltools.price_lists import LMP
 from hulltools.settlement_rules import bill, forced_losses, paid_by_kind
 from hulltools.studies import Paid
-from hulltools.study_page import forced_part
+from hulltools.study_page import forced_part, unit_lists
 from hulltools.sweeping import without_unit
 from hulltools.outputs import Owed
 from hulltools.tables import Table
@@ -228,6 +229,18 @@ class ForcedLosses(unittest.TestCase):
         page = re.sub("<[^>]*>", "|", forced_part(study))
         self.assertRegex(page, r"NUCLEAR\|+thermal\|+must_run\|+300\.00\|")
         self.assertRegex(page, r"NUCLEAR\|+renewable\|+least power\|+20\.00\|")
+
+
+class UnitLists(unittest.TestCase):
+    def test_a_page_with_room_for_few_units_holds_those_of_the_largest_payments(self):
+        """PEAKER, the third, is owed 500.00, and STEEL, the fifth, 150.00; a thermal unit takes four numbers, and a buyer two."""
+        case = hulltools.read_case(f"{FOLDER}/case.json")
+        schedule = hulltools.read_schedule(f"{FOLDER}/schedule.json", case)
+        units = hulltools.read_output(f"{FOLDER}/settle.output").units
+        study = SimpleNamespace(case=case, schedule=schedule, paid=lambda: [Paid(LMP, units, [])])
+        for room, due in ((4, [2]), (6, [2, 4]), (100, [0, 1, 2, 3, 4])):
+            with mock.patch("hulltools.study_page.MOST_NUMBERS", room):
+                self.assertEqual(sorted(unit_lists(study)), due)
 
 
 class Reserve(unittest.TestCase):
