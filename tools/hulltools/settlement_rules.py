@@ -67,12 +67,20 @@ def forced_loss(owed: Owed) -> Millionths:
     return Millionths(max(0, -owed.earned))
 
 
+def is_held_on(unit: Thermal) -> bool:
+    """Whether the state before period 1 leaves a unit no choice but to be on in period 1."""
+    return bool(unit.on0) and (unit.min_up > unit.up0 or unit.power0 > unit.stop_cap)
+
+
 def reason_of_loss(unit: Unit) -> str:
-    """Which rule leaves the unit no choice but the loss."""
+    """Which rules leave the unit no choice but the loss."""
     if not isinstance(unit, Thermal):
         return "least power"
     reasons = ["must_run"] * bool(unit.must_run) + ["commitment"] * any(mark == 1 for mark in unit.marks)
-    return " and ".join(reasons) or "state before period 1"
+    # (a unit that must run is on in any case; one that is committed may lose before that, by its state)
+    if not reasons or (not unit.must_run and is_held_on(unit)):
+        reasons.append("state before period 1")
+    return " and ".join(reasons)
 
 
 @dataclass(frozen=True)

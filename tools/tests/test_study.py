@@ -24,7 +24,7 @@ from hulltools.day_lengths import changed_day, clock_change
 from hulltools.costs import Costs
 from hulltools.gap_parts import gap_parts
 from hulltools.price_lists import LMP
-from hulltools.settlement_rules import bill, forced_losses, paid_by_kind
+from hulltools.settlement_rules import bill, forced_losses, paid_by_kind, reason_of_loss
 from hulltools.studies import Paid
 from hulltools.study_page import forced_part, unit_lists
 from hulltools.sweeping import without_unit
@@ -229,6 +229,23 @@ class ForcedLosses(unittest.TestCase):
         page = re.sub("<[^>]*>", "|", forced_part(study))
         self.assertRegex(page, r"NUCLEAR\|+thermal\|+must_run\|+300\.00\|")
         self.assertRegex(page, r"NUCLEAR\|+renewable\|+least power\|+20\.00\|")
+
+
+    def test_the_state_before_period_1_is_told_beside_a_commitment(self):
+        unit = hulltools.read_case(f"{FOLDER}/case.json").unit("thermal", "NUCLEAR")
+        unit.stop_limit, unit.power0, state = unit.most, unit.least, "state before period 1"
+        for must_run, on, up, mark, due in (
+            (1, 1, 0, None, "must_run"),
+            (1, 1, 0, 1, "must_run and commitment"),
+            (0, 1, 5, 1, "commitment"),
+            (0, 0, 0, 1, "commitment"),
+            (0, 1, 4, 1, f"commitment and {state}"),
+            (0, 1, 4, 0, state),
+        ):
+            unit.must_run, unit.on0, unit.up0, unit.marks, unit.min_up = must_run, on, up, [mark], 5
+            self.assertEqual(reason_of_loss(unit), due)
+        unit.up0, unit.marks, unit.power0, unit.stop_limit = 9, [1], unit.most, unit.most - 1
+        self.assertEqual(reason_of_loss(unit), f"commitment and {state}")
 
 
 class UnitLists(unittest.TestCase):
