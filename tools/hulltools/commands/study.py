@@ -93,7 +93,7 @@ if TYPE_CHECKING:
 def named_file(text: str) -> tuple[str, str]:
     name, mark, file = text.partition("=")
     if not name or not mark or not file:
-        raise ValueError(text)
+        raise argparse.ArgumentTypeError(f"{text}: NAME=FILE is due")
     return name, file
 
 
