@@ -382,6 +382,18 @@ def skipped(words: Sequence[str], files: Sequence[str]) -> Set[str]:
     return {keys[it] for it in names}
 
 
+def need_a_list(wanted: Wanted, case: Case) -> None:
+    """Refuses words by which a study would have no list of prices, before a schedule is made for it."""
+    keys = {LMP.key, RELAXATION.key, CONVEX_HULL.key, *map(key_of, wanted.files)}
+    keys |= {ELMP.key} if wanted.fast.units(case) else set()
+    keys |= {SUBGRADIENT_100.key, SUBGRADIENT_1000.key} if wanted.search else set()
+    if keys - wanted.skip:
+        return
+    rest = "" if ELMP.key in wanted.skip else " but ELMP, for which no unit is fast-start"
+    zonal = "; settle_zones.py settles prices by zone alone" if wanted.zones else ""
+    raise HullError(f"there is no list of prices: --skip leaves out all{rest}{zonal}")
+
+
 def plain_name(name: str) -> str:
     """A name as it is compared with names of the study's own lists: these aren't told apart by case, width or spaces."""
     return " ".join(unicodedata.normalize("NFKC", name).casefold().split())

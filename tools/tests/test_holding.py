@@ -442,9 +442,15 @@ class Studies(Room):
         said = self.run_study("--skip", "lmp,LPM", status=1)
         self.assertEqual(said.count("there is no such list"), 1)
         self.assertIn("--skip LPM: there is no such list: these are convex_hull, lmp, elmp, relaxation,", said)
-        said = self.run_study("--skip", "lmp,elmp,relaxation,convex_hull", status=1)
-        self.assertIn("there is no list of prices: Left out by --skip", said)
+
+    def test_without_a_list_a_study_is_refused_before_a_schedule_is_made(self) -> None:
+        three, due = "lmp,relaxation,convex_hull", "there is no list of prices: --skip leaves out all"
+        said = self.run_study("--skip", f"{three},elmp", status=1)
+        self.assertEqual(said.splitlines()[-1], f"study.py: {due}")
+        said = self.run_study("--skip", three, "--fast-start", "", status=1)
+        self.assertEqual(said.splitlines()[-1], f"study.py: {due} but ELMP, for which no unit is fast-start")
         self.assertFalse(os.path.exists(f"{self.room}/st"))
+        self.run_study("--skip", f"{three},elmp", "--search")
 
     def test_a_step_that_takes_long_is_told(self) -> None:
         with self.begun(*GIVEN, "--hull", self.program("convex"), HULL_PROGRESS="1") as ran:

@@ -136,7 +136,7 @@ def refuse_names(given: argparse.Namespace, words: Sequence[str]) -> None:
 
 
 def wanted(given: argparse.Namespace, case: Case) -> Wanted:
-    from ..studies import Wanted, skipped
+    from ..studies import Wanted, need_a_list, skipped
 
     files = {name: read_prices(file, case.periods) for name, file in given.prices}
     clock = Clock(given.hours_per_period, given.start)
@@ -146,7 +146,7 @@ def wanted(given: argparse.Namespace, case: Case) -> Wanted:
     found = Wanted(given.search, fast_start(given), files, zones, rules, given.title, given.currency, clock)
     found.within, found.rounds, found.seconds = given.within, given.rounds, solver_seconds(given)
     found.skip = skipped(given.skip, list(files))
-    found.fast.units(case)  # (a name that there isn't is refused before anything is made)
+    need_a_list(found, case)  # (this, and a fast-start unit that there isn't, is refused before anything is made)
     return found
 
 
