@@ -324,7 +324,7 @@ def page_of(
     )
     proposals = f", {len(priced.proposals)} proposals (the {report.chosen}. is chosen)" if report else ""
     body = f"""<h1>{title}</h1>
-<p>{shown(priced.name)}: {len(priced.units)} units over {priced.periods} periods{proposals}. Money is in the case's currency, prices are per MW and period: per MWh where a period is an hour.</p>
+<p>{shown(priced.name)}: {len(priced.units)} units over {priced.periods} periods{proposals}. Money is in the case's currency, rounded to the cent. Prices are per MW and period: per MWh where a period is an hour.</p>
 {sums_part(priced)}<p class="said">{nearness(priced, certificate, is_own)}</p>
 {price_part(priced)}
 {value_part(report) if report else ""}

@@ -360,9 +360,8 @@ def origin_part(study: Study) -> str:
 def study_page(study: Study, files: Dict[str, str]) -> str:
     """The page; `files` are texts that it offers for download, by name."""
     title = study.wanted.title or "Price lists, one schedule"
-    money_told = (
-        f"Money is in {plain(study.wanted.currency)}." if study.wanted.currency else "Money is in the case's currency."
-    )
+    currency = plain(study.wanted.currency) if study.wanted.currency else "the case's currency"
+    money_told = f"Money is in {currency}, rounded to the cent, bounds and parts too; table.csv has all digits."
     parts = [
         gap_part(study),
         *(rule_part(study, rule) for rule in study.wanted.rules),

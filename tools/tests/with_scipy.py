@@ -319,6 +319,7 @@ class Study(unittest.TestCase):
         )
         self.assertEqual((row["response_supply_mw"], row["uplift_eur"]), ("160", "1200"))
         self.assertIn("EUR per MWh", self.read("study.html"))
+        self.assertIn("Money is in EUR, rounded to the cent, bounds and parts too;", self.read("study.html"))
 
     def test_fast_start_units_by_name_and_by_rule(self):
         """With BLOCK and PEAKER both relaxed the price is 30.00; with neither ELMP is LMP, 50.00."""
