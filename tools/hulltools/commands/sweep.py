@@ -15,6 +15,7 @@ usage: sweep.py CASE FOLDER [--demand P].. [--wind P].. [--offer NAME=P].. [--ou
 Each scenario gets a schedule of its own. A scenario that is done stays so: after an interrupt the same words go on with what is left, and what
 was made of another case, by other words, by another program or another version of SciPy is made anew. A scenario whose case can't be met is told and left out, with status 1 in the end.
 One of which a list took longer than --seconds, or has prices that were cut, is done too: each run tells it, and ends with status 3.
+Other --seconds make these anew, and no others.
 A file that no sweep made is refused before anything is made, with status 2; one that was changed since gets another name, which is told.
 The table and picture of the sweep before go first. Where another sweep changes a scenario meanwhile there are none, with status 1. After Ctrl-C, TERM or HUP they have the scenarios that are done, and UNFINISHED.txt says so, with status
 130, 143 or 129; --seconds and --skip behind --
@@ -94,11 +95,24 @@ def sums_of_named(names: Sequence[str]) -> dict[str, str]:
     return {name: sha256_of(name) for name in names if os.path.isfile(name)}
 
 
+def words_and_seconds(words: Sequence[str]) -> tuple[list[str], Optional[str]]:
+    """Words of study.py without --seconds, and what that has, which is no part of what a search finds within it."""
+    ask = argparse.ArgumentParser(add_help=False)
+    ask.add_argument("--seconds")
+    found, rest = ask.parse_known_args(list(words))
+    return rest, found.seconds
+
+
 def work_of(case: str, words: Sequence[str], inputs: Sequence[str], program: Sequence[str]) -> Mark:
     """What a scenario's files are made of, and by which program."""
-    total = hashlib.sha256(case.encode()).hexdigest()
+    total, (rest, seconds) = hashlib.sha256(case.encode()).hexdigest(), words_and_seconds(words)
     made_by = {"tool": SWEEP, "version": __version__, "program": list(program), "scipy": scipy_version()}
-    return {**made_by, "case": total, "words": list(words), "inputs": sums_of_named(inputs)}
+    return {**made_by, "case": total, "words": rest, "seconds": seconds, "inputs": sums_of_named(inputs)}
+
+
+def in_any_time(work: Mark) -> Mark:
+    """The work of a scenario that lacks nothing: it is the same whatever --seconds are."""
+    return {**work, "seconds": "any"}
 
 
 def folder_of(folder: str, scenario: Scenario, inputs: Sequence[str]) -> StudyFolder:
@@ -117,7 +131,8 @@ def write_scenario(place: StudyFolder, study: Study, work: Mark) -> str:
         write_whole(os.path.join(place.room, LACKS), "".join(f"{one_line(it)}\n" for it in study.notes))
     sums = {name: sha256_in(place.room, name) for name in os.listdir(place.room) if name != OWN}
     if study.failure is None:
-        write_whole(os.path.join(place.room, DONE), done_text(work, sums))
+        of_mark = work if study.is_short else in_any_time(work)
+        write_whole(os.path.join(place.room, DONE), done_text(of_mark, sums))
     place.place()
     return table
 
@@ -139,15 +154,20 @@ def make_scenario(
     return study
 
 
+def sums_done(folder: str, work: Mark) -> dict[str, str]:
+    """The files of a scenario that is done, with their sums."""
+    return files_done(in_any_time(work), folder, DONE) or files_done(work, folder, DONE)
+
+
 def table_done(folder: str, work: Mark) -> Optional[str]:
     """The table of a scenario that is done."""
-    due, data = files_done(work, folder, DONE).get(TABLE), bytes_in(folder, TABLE) or b""
+    due, data = sums_done(folder, work).get(TABLE), bytes_in(folder, TABLE) or b""
     return data.decode("utf-8") if hashlib.sha256(data).hexdigest() == due else None
 
 
 def lacks_of(folder: str, work: Mark) -> list[str]:
     """In sentences what the study of a scenario that is done says of it, where a list took too long or its prices were cut."""
-    is_there = LACKS in files_done(work, folder, DONE)
+    is_there = LACKS in sums_done(folder, work)
     return (bytes_in(folder, LACKS) or b"").decode("utf-8", "replace").splitlines() if is_there else []
 
 
