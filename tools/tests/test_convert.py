@@ -757,6 +757,27 @@ class Others(WithRoom):
             told = self.network("loads-p_set.csv", (old, new), status=1)[1]
             self.assertIn(f"loads-p_set.csv: {why}\n", told)
 
+    def test_snapshots_as_pypsa_writes_them(self) -> None:
+        """A count stands in front of each snapshot; a network of several levels has a column more."""
+        self.network("snapshots.csv")
+        due = self.read(f"{self.room}/case.json")
+        rows = [f"2026-11-30 {t:02}:00:00,1.0,1.0,1.0\r\n" for t in range(24)]
+        head, counted = "snapshot,objective,stores,generators\r\n", [f"{t},{row}" for t, row in enumerate(rows)]
+        self.network("snapshots.csv", (head + "".join(rows), f",{head}{''.join(counted)}"))
+        self.assertEqual(self.read(f"{self.room}/case.json"), due)
+        for text, why in (
+            (f",{head}{counted[0]}{counted[0].replace('0', '1', 1)}", "a snapshot stands twice"),
+            (",period,timestep,objective\n0,2030,2026-11-30,1\n", "a network of several investment periods isn't read"),
+        ):
+            told, _ = self.small_network("name,bus,p_nom\ng,b,10\n", text, status=1)
+            self.assertIn(f"net/snapshots.csv: {why}", told)
+        os.remove(f"{self.room}/net/loads.csv")
+        self.write("net/investment_periods.csv", "period,objective,years\n")
+        told, _ = self.small_network("name,bus,p_nom\ng,b,10\n", ",snapshot,objective\n0,now,1.0\n")
+        self.assertEqual(told, "")
+        told, _ = self.small_network("scenario,name,bus,p_nom\nlow,g,b,10\n", status=1)
+        self.assertIn("a network of several scenarios isn't read", told)
+
     def test_times_of_pypsa_that_are_not_whole_are_told(self) -> None:
         os.mkdir(f"{self.room}/net")
         self.write("net/snapshots.csv", "snapshot,objective\n0,1\n1,1\n")

@@ -12,6 +12,8 @@ from .series import cell_number, lists_out_negative, points_of, scaled
 
 PIECES = 10  # how many lines a quadratic cost is cut into
 INFINITE = ("inf", "+inf", "infinity", "+infinity")  # (of a ramp: there is no limit)
+# First columns of tables that stand in several levels, with what there are several of; snapshots.csv has a count in front of them.
+LEVELS = {"period": "investment periods", "scenario": "scenarios"}
 Table = Dict[str, Dict[str, str]]
 NETWORK = "the network: all units and loads stand at one place"
 # Columns of generators.csv that are read, and those that say nothing of operation.
@@ -34,6 +36,7 @@ KNOWN_FILES = (
     "loads.csv",
     "buses.csv",
     "network.csv",
+    "investment_periods.csv",  # (a network of several is refused)
     "carriers.csv",
     "meta.json",
     "crs.json",
@@ -73,8 +76,9 @@ def table(folder: str, file: str) -> Table:
         rows.append(cells)
     if not rows or not rows[0]:
         raise HullError(f"{name}: it has no first line with columns")
-    if rows[0][0] == "period":
-        raise HullError(f"{name}: a network of several investment periods isn't read: write one of them")
+    level = next((LEVELS[it] for it in rows[0][:2] if it in LEVELS), None)
+    if level:
+        raise HullError(f"{name}: a network of several {level} isn't read: write one of them")
     columns = rows[0][1:]
     refuse_twice_named(columns, name)
     if any(len(row) > len(rows[0]) for row in rows):
@@ -82,6 +86,17 @@ def table(folder: str, file: str) -> Table:
     found = {row[0]: {**dict.fromkeys(columns, ""), **dict(zip(columns, row[1:]))} for row in rows[1:] if row}
     if len(found) < sum(map(bool, rows[1:])):
         raise HullError(f"{name}: a name of the first column stands twice")
+    return found
+
+
+def snapshots_of(folder: str) -> Table:
+    """The rows of snapshots.csv by snapshot. PyPSA writes a count in front of the snapshots; by hand they often stand first."""
+    rows = table(folder, "snapshots.csv")
+    if "snapshot" not in next(iter(rows.values()), {}):
+        return rows
+    found = {row["snapshot"]: row for row in rows.values()}
+    if len(found) < len(rows):
+        raise HullError(f"{os.path.join(folder, 'snapshots.csv')}: a snapshot stands twice")
     return found
 
 
@@ -104,7 +119,7 @@ class Network:
 
     def __init__(self, folder: str, notes: Notes):
         self.folder, self.notes = folder, notes
-        self.snapshots = table(folder, "snapshots.csv")
+        self.snapshots = snapshots_of(folder)
         self.periods = len(self.snapshots)
         if not self.periods:
             raise HullError(f"{os.path.join(folder, 'snapshots.csv')}: it has no row of a snapshot")
