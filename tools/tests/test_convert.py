@@ -797,6 +797,24 @@ class Others(WithRoom):
         told = self.convert(f"{self.room}/net", f"{self.room}/case.json", status=status)
         return told[status], json.loads(self.read(f"{self.room}/case.json")) if status == 0 else None
 
+    def test_units_of_pypsa_before_the_first_snapshot(self) -> None:
+        """PyPSA holds a unit off for as long as min_down_time is above down_time_before, where that is above 0."""
+        head = "name,bus,p_nom,committable,min_down_time,up_time_before,down_time_before\n"
+        both = "changed: up_time_before and down_time_before that are both above 0: the unit is taken as"
+        for times, state, due in (
+            ("4,0,0", (0, 0, 4), "assumed: down_time_before of 0 of a unit that is off: it may start at once"),
+            ("0,0,0", (0, 0, 1), ""),
+            ("4,0,3", (0, 0, 3), ""),
+            ("4,2,0", (1, 2, 0), ""),
+            ("2,1,1", (0, 0, 1), f"{both} off, since min_down_time holds it off (1: g)"),
+            ("2,1,2", (1, 1, 0), f"{both} on, since PyPSA has no start cost then (1: g)"),
+        ):
+            told, case = self.small_network(f"{head}g,b,10,True,{times}\n")
+            unit = case["thermal_generators"]["g"]
+            self.assertEqual((unit["unit_on_t0"], unit["time_up_t0"], unit["time_down_t0"]), state)
+            self.assertIn(due, told)
+            self.assertEqual(bool(due), "_time_before" in told)
+
     def test_flags_of_pypsa(self) -> None:
         for key, text in (("committable", "yes"), ("committable", "T"), ("active", "on"), ("p_nom_extendable", "2")):
             told, _ = self.small_network(f"name,bus,p_nom,{key}\ng,b,10,{text}\n", status=1)

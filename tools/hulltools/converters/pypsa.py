@@ -288,6 +288,22 @@ class Network:
         """Whether a ramp has no limit."""
         return self.generators[name].get(key, "").strip().lower() in INFINITE
 
+    def times_before(self, name: str, min_off: int) -> Tuple[int, int]:
+        """For how many snapshots a committable unit has been on, and off, before the first: one of the two is 0."""
+        on, off = self.whole(name, "up_time_before", 1), self.whole(name, "down_time_before", 0)
+        if on and off:  # (up_time_before is 1 where nobody wrote it)
+            is_held = off < min_off
+            self.notes.changed(
+                "up_time_before and down_time_before that are both above 0: the unit is taken as "
+                + ("off, since min_down_time holds it off" if is_held else "on, since PyPSA has no start cost then"),
+                name,
+            )
+            return (0, off) if is_held else (on, 0)
+        if not on and not off and min_off > 1:
+            what = "down_time_before of 0 of a unit that is off: it may start at once, as PyPSA has it"
+            self.notes.assumed(what, name)
+        return on, 0 if on else off or max(1, min_off)
+
     def thermal(self, name: str, least_pu: Decimal, most_pu: Decimal, cost: Decimal) -> Object:
         size = self.size(name)
         least, most = size * least_pu, size * most_pu
@@ -297,8 +313,8 @@ class Network:
             return most if share is None else min(most, size * share)
 
         committable = self.flag(name, "committable")
-        on = self.whole(name, "up_time_before", 1) if committable else 1
-        off, min_off = (self.whole(name, key, 0) for key in ("down_time_before", "min_down_time"))
+        min_off = self.whole(name, "min_down_time", 0)
+        on, off = self.times_before(name, min_off) if committable else (1, 0)
         if not committable:
             self.notes.changed(
                 "generators that aren't committable and have a cost run in all periods, from p_min_pu on", name
@@ -324,7 +340,7 @@ class Network:
             "power_output_t0": power,
             "unit_on_t0": int(on > 0),
             "time_up_t0": on,
-            "time_down_t0": 0 if on else max(1, off),
+            "time_down_t0": off,
             "startup": [{"lag": max(1, min_off), "cost": start}] if start else [],
             "piecewise_production": self.curve(name, least, most, cost),
         }
