@@ -815,6 +815,21 @@ class Others(WithRoom):
             self.assertIn(due, told)
             self.assertEqual(bool(due), "_time_before" in told)
 
+    def test_signs_and_carriers_of_pypsa(self) -> None:
+        """A sign of 0.001 has p_nom in kW, and one of -1 takes power; a load of heat is none of power."""
+        for sign in ("-1.0", "0.001"):
+            told, _ = self.small_network(f"name,bus,p_nom,sign\ng,b,10,{sign}\n", status=1)
+            what = f"sign: 1 is due, and {sign} is found: p_nom and costs are of another unit or way"
+            self.assertEqual(told, f'convert.py: generator "g", {what}\n')
+        generators = "name,bus,p_nom,sign\ng,ac,10,1.0\nh,dc,10,\n"
+        for carriers, count in ((("", "AC", "DC"), 0), (("heat", "AC", "DC"), 3)):
+            buses = [f"{name},{carrier}\n" for name, carrier in zip(("b", "ac", "dc"), carriers)]
+            self.small_network(generators)
+            self.write("net/buses.csv", "name,carrier\n" + "".join(buses))
+            told = self.small_network(generators)[0]
+            due = "left out: carriers of the buses: loads and generators of all of them are taken as of power (3: AC, DC, heat)\n"
+            self.assertEqual(due in told, count > 0)
+
     def test_flags_of_pypsa(self) -> None:
         for key, text in (("committable", "yes"), ("committable", "T"), ("active", "on"), ("p_nom_extendable", "2")):
             told, _ = self.small_network(f"name,bus,p_nom,{key}\ng,b,10,{text}\n", status=1)

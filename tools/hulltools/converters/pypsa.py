@@ -19,13 +19,12 @@ NETWORK = "the network: all units and loads stand at one place"
 # Columns of generators.csv that are read, and those that say nothing of operation.
 READ = (
     "p_nom p_min_pu p_max_pu marginal_cost marginal_cost_quadratic committable start_up_cost stand_by_cost min_up_time min_down_time "
-    "up_time_before down_time_before ramp_limit_up ramp_limit_down ramp_limit_start_up ramp_limit_shut_down active p_init"
+    "up_time_before down_time_before ramp_limit_up ramp_limit_down ramp_limit_start_up ramp_limit_shut_down active p_init sign"
 ).split()
 SAID = "name bus carrier control type build_year lifetime capital_cost p_nom_min p_nom_max p_nom_mod p_nom_set efficiency weight".split()
 # What a column that isn't read says where it says nothing: the default of PyPSA.
 NOTHING = ("", "nan", "0", "0.0", "false", "inf")
 DEFAULTS = {
-    "sign": ("", "nan", "1", "1.0"),
     "e_sum_min": ("", "nan", "-inf", "-infinity"),
     "e_sum_max": ("", "nan", *INFINITE),
 }
@@ -245,6 +244,10 @@ class Network:
         if not self.is_active(name):
             self.notes.left_out("generators that aren't active", name)
             return
+        if self.value(name, "sign") not in (None, 1):
+            text = self.generators[name]["sign"].strip()
+            what = f'generator "{name}", sign: 1 is due, and {text} is found: p_nom and costs are of another unit or way'
+            raise HullError(one_line(what))
         if self.flag(name, "p_nom_extendable"):
             self.notes.left_out("that a capacity may be extended: p_nom is taken", name)
         most, least, cost = (
@@ -375,8 +378,7 @@ class Network:
             )
             for name in table(self.folder, f"{component}.csv"):
                 self.notes.left_out(what, name)
-        if len(table(self.folder, "buses.csv")) > 1:
-            self.notes.left_out(NETWORK)
+        self.drop_buses()
         read = {f"generators-{it}.csv" for it in VARYING} | {
             "loads-p_set.csv",
             *KNOWN_FILES,
@@ -387,6 +389,18 @@ class Network:
             is_result = attribute in RESULTS or component == "buses"
             if file.endswith(".csv") and file not in read and not is_result and component not in COMPONENTS:
                 self.notes.left_out(f"the file {file}")
+
+    def drop_buses(self) -> None:
+        """Notes that there are several buses; and that loads and generators stand at buses of heat, gas or the like too."""
+        buses, loads = (table(self.folder, file) for file in ("buses.csv", "loads.csv"))
+        if len(buses) > 1:
+            self.notes.left_out(NETWORK)
+        found = (row.get("bus", "") for row in (*loads.values(), *self.generators.values()))
+        used = {buses[bus].get("carrier", "") or "AC" for bus in found if bus in buses}
+        if len({"AC" if it == "DC" else it for it in used}) > 1:
+            for carrier in sorted(used):
+                what = "carriers of the buses: loads and generators of all of them are taken as of power"
+                self.notes.left_out(what, carrier)
 
 
 def read_pypsa(folder: str, notes: Notes) -> Object:
