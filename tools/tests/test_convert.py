@@ -294,6 +294,21 @@ class Csv(WithRoom):
         self.assertIn("not both are taken", told)
         self.assertEqual(told.count("\n"), 1)
 
+    def test_points_that_may_part_thousands(self) -> None:
+        """A spreadsheet of a tongue with decimal commas writes 1300 as 1.300 and parts cells by semicolons."""
+        folder = self.folder()
+        for file in set(os.listdir(folder)) - {SUMS}:
+            self.write(f"csv/{file}", re.sub(r"\.[0-9]+", "", self.read(f"{folder}/{file}")).replace(",", ";"))
+        hours = self.read(f"{folder}/hours.csv")
+        self.write("csv/hours.csv", re.sub(r"\n3;[^;]*;", "\n3;1.300;", hours))
+        told = self.convert(folder, f"{self.room}/back.json", status=1)[1]
+        why = "each point of this folder may be one of decimals or of thousands: part its cells by commas"
+        self.assertEqual(told, f"convert.py: csv/hours.csv, line 4: {why}\n")
+        for sure in ("0.500", "12.5", "1234.500"):
+            self.write("csv/hours.csv", re.sub(r"\n3;[^;]*;", f"\n3;{sure};", hours))
+            self.convert(folder, f"{self.room}/back.json")
+            self.assertEqual(json.loads(self.read(f"{self.room}/back.json"))["demand"][2], float(sure))
+
     def test_commas_that_may_part_thousands(self) -> None:
         folder = self.folder()
         for file in set(os.listdir(folder)) - {SUMS}:

@@ -26,9 +26,9 @@ TOOL = "convert.py"
 NEEDED = ("units.csv", "offers.csv", "hours.csv")
 NAMES = ("unit", "bid")  # columns of names, which may have several lines
 NUMBER = re.compile(r"-?(0|[1-9][0-9]*)(\.[0-9]+)?([eE][-+]?[0-9]+)?")
-THOUSANDS = re.compile(r"[-+]?[1-9][0-9]{0,2}(,[0-9]{3})+")  # what may have commas between thousands
+THOUSANDS = re.compile(r"[-+]?[1-9][0-9]{0,2}([,.][0-9]{3})+")  # what may have signs between thousands
 SURE = "sure"
-# A decimal sign of files with semicolons, with the first place that has it; and the first of a comma that parts no thousands.
+# A decimal sign of files with semicolons, with the first place that has it; and the first of a sign that parts no thousands.
 Signs = Dict[str, str]
 
 
@@ -93,16 +93,17 @@ def take_signs(row: Row, columns: List[str], signs: Signs) -> None:
                 one, two = ("point", "comma") if sign == "." else ("comma", "point")
                 why = f"{row[column]!r} with a {one}, and there is a {two} in {place}: where semicolons part cells, not both are taken"
                 raise row.wrong(f"{column} is {why}")
-        if "," in row[column] and not THOUSANDS.fullmatch(row[column]):
+        if re.search("[,.]", row[column]) and not THOUSANDS.fullmatch(row[column]):
             signs.setdefault(SURE, row.place)
         row[column] = row[column].replace(",", ".")
 
 
 def refuse_unsure(signs: Signs) -> None:
-    """Refuses a folder whose commas may all stand between thousands."""
-    if "," in signs and SURE not in signs:
-        what = "each comma of this folder may be one of decimals or of thousands: write numbers with points"
-        raise HullError(f"{signs[',']}: {what}")
+    """Refuses a folder whose commas, or whose points, may all stand between thousands."""
+    for sign, word, way in ((",", "comma", "write numbers with points"), (".", "point", "part its cells by commas")):
+        if sign in signs and SURE not in signs:
+            what = f"each {word} of this folder may be one of decimals or of thousands: {way}"
+            raise HullError(f"{signs[sign]}: {what}")
 
 
 def row_of(name: str, line: int, columns: List[str], cells: List[str]) -> Row:
