@@ -101,6 +101,23 @@ class Csv(WithRoom):
         self.convert(folder, f"{self.room}/back.json")
         self.assertEqual(read_case(f"{self.room}/back.json"), read_case(f"{self.room}/case.json"))
 
+    def test_columns_without_a_name(self) -> None:
+        """A spreadsheet writes empty columns behind a table, and pandas an index in front of it; any other cell is refused."""
+        folder = self.folder()
+        hours, due = self.read(f"{folder}/hours.csv"), read_case(f"{self.room}/case.json")
+        rows = hours.splitlines()
+        counted = [f"{'' if not t else t - 1},{row}\n" for t, row in enumerate(rows)]
+        index = "left out: hours.csv: the first column, which has no name\n"
+        for text, told in ((hours.replace("\n", ",, \n"), ""), ("".join(counted), index)):
+            self.write("csv/hours.csv", text)
+            self.assertEqual(self.convert(folder, f"{self.room}/back.json")[0], told)
+            self.assertEqual(read_case(f"{self.room}/back.json"), due)
+        cells = rows[1].split(",")
+        self.write("csv/hours.csv", "\n".join([f"{rows[0]},", f"{cells[0]},{cells[1]},5,{cells[2]}", *rows[2:]]))
+        told = self.convert(folder, f"{self.room}/back.json", status=1)[1]
+        why = f"{cells[2]!r} stands in a column without a name. Is a decimal comma in the row?"
+        self.assertEqual(told, f"convert.py: csv/hours.csv, line 2: {why}\n")
+
     def refused(self, file: str, old: str, new: str) -> str:
         folder = self.folder("of_" + str(len(os.listdir(self.room))))
         text = self.read(f"{folder}/{file}")

@@ -113,7 +113,9 @@ def row_of(name: str, line: int, columns: List[str], cells: List[str]) -> Row:
         raise row.wrong(
             f"it has {len(cells)} cells, and the first line names {len(columns)} columns. Is a decimal comma in it?"
         )
-    for column, cell in zip(columns, [*cells, *[""] * (len(columns) - len(cells))]):
+    for place, (column, cell) in enumerate(zip(columns, [*cells, *[""] * (len(columns) - len(cells))])):
+        if not column and place and cell.strip():  # (in front stands an index, as pandas writes one)
+            raise row.wrong(f"{cell.strip()!r} stands in a column without a name. Is a decimal comma in the row?")
         if column not in NAMES:
             refuse_line_end(cell, row.place)
         row[column] = as_it_was(cell) if column in NAMES else cell.strip()
@@ -124,8 +126,11 @@ def check_columns(name: str, columns: List[str], due: List[str], notes: Notes) -
     lacking = [it for it in due if it not in columns]
     if lacking:
         raise HullError(f"{name}: the first line has no column {', '.join(lacking)}. Due: {', '.join(due)}")
-    if len(set(columns)) < len(columns):
+    named = [it for it in columns if it]
+    if len(set(named)) < len(named):
         raise HullError(f"{name}: the first line names a column twice")
+    if not columns[0]:
+        notes.left_out(f"{os.path.basename(name)}: the first column, which has no name")
     for column in columns:
         if column and column not in due:
             notes.left_out(f"{os.path.basename(name)}: the column {column}")
