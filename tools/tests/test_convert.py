@@ -101,6 +101,21 @@ class Csv(WithRoom):
         self.convert(folder, f"{self.room}/back.json")
         self.assertEqual(read_case(f"{self.room}/back.json"), read_case(f"{self.room}/case.json"))
 
+    def test_fields_of_points_that_are_not_read_are_told(self) -> None:
+        case = market.case()
+        for unit in case["thermal_generators"].values():
+            unit["piecewise_production"][0]["co2"] = unit["startup"][0]["fuel"] = 4
+        bid = next(iter(case["demand_bids"].values()))
+        bid["blocks"][0][0]["buyer"] = bid["blocks"][1][0]["buyer"] = "x"
+        self.write("more.json", market.text(case))
+        for to in ("back.json", "folder"):
+            told = self.convert(f"{self.room}/more.json", f"{self.room}/{to}")[0]
+            for field in ("piecewise_production: the field `co2`", "startup: the field `fuel`"):
+                self.assertIn(f"left out: thermal_generators, {field} ({len(case['thermal_generators'])}: ", told)
+            self.assertIn("left out: demand_bids, blocks: the field `buyer` (1: ", told)
+        self.convert(f"{self.room}/folder", f"{self.room}/again.json")
+        self.assertEqual(self.read(f"{self.room}/again.json"), self.read(f"{self.room}/back.json"))
+
     def test_columns_without_a_name(self) -> None:
         """A spreadsheet writes empty columns behind a table, and pandas an index in front of it; any other cell is refused."""
         folder = self.folder()

@@ -3,7 +3,7 @@ from __future__ import annotations
 
 import json
 from decimal import Decimal
-from typing import Any, List
+from typing import Any, List, Sequence, Set
 
 from ..errors import HullError, shown_name
 from ..json_texts import Refused, parse
@@ -80,6 +80,7 @@ def read_hull(data: bytes, name: str, notes: Notes) -> Object:
 
 CASE_KEYS = ("time_periods", "demand", "reserves", "thermal_generators", "renewable_generators")
 RENEWABLE = ["power_output_minimum", "power_output_maximum"]
+ITEMS = {"startup": ("lag", "cost"), "piecewise_production": ("mw", "cost"), "blocks": ("mw", "price")}
 
 
 def members(top: Taken, key: str, fields: List[str], notes: Notes) -> Object:
@@ -88,7 +89,22 @@ def members(top: Taken, key: str, fields: List[str], notes: Notes) -> Object:
     for name, fields_of in top.object(key).items():
         unit = Taken(fields_of if isinstance(fields_of, dict) else {}, key, name, notes)
         found[name] = {field: unit.take(field) for field in fields if field in unit.value and field != "name"}
+        for field in filter(ITEMS.__contains__, list(found[name])):
+            skipped: Set[str] = set()
+            found[name][field] = with_known_keys(found[name][field], ITEMS[field], skipped)
+            for other in sorted(skipped):
+                notes.left_out(f"{key}, {field}: the field `{other}`", name)
         if unit.take("name") not in (None, name):
             notes.left_out(f"{key}: the field `name`, which isn't the unit's", name)
         unit.rest()
     return found
+
+
+def with_known_keys(value: Any, keys: Sequence[str], skipped: Set[str]) -> Any:
+    """A list whose items have these keys alone, with the others among those skipped; what has another form stays, for its fault to be told."""
+    if isinstance(value, list):
+        return [with_known_keys(it, keys, skipped) for it in value]
+    if not isinstance(value, dict):
+        return value
+    skipped.update(value.keys() - set(keys))
+    return {key: value[key] for key in keys if key in value}
