@@ -641,6 +641,28 @@ class Others(WithRoom):
         ):
             self.assertIn(f"{line}\n", told)
 
+    def test_costs_of_egret_over_time(self) -> None:
+        """A curve or a fuel cost of each period: the first is taken, which is told where another differs."""
+        curves = [{"data_type": "cost_curve", "values": [[50, 1], [100, at]]} for at in (9, 9, 8)]
+        fuel = {"data_type": "fuel_curve", "values": [[50, 2], [100, 5]]}
+        for fields, last, told in (
+            ({"p_cost": other_forms.over_time(curves[:2])}, 9, ""),
+            ({"p_cost": other_forms.over_time(curves[1:])}, 9, "p_cost"),
+            ({"p_fuel": fuel, "fuel_cost": other_forms.over_time([3, 3])}, 15, ""),
+            ({"p_fuel": other_forms.over_time([fuel] * 2), "fuel_cost": other_forms.over_time([3, 4])}, 15, "fuel_cost"),
+        ):
+            value = {"elements": {}, "system": {"time_keys": ["1", "2"]}}
+            unit = {"generator_type": "thermal", "p_min": 50, "p_max": 100, **fields}
+            value["elements"] = {"generator": {"g": unit}, "load": {"l": {"p_load": 0}}}
+            other_forms.write_json(f"{self.room}/model.json", value)
+            lines = self.convert(f"{self.room}/model.json", f"{self.room}/case.json")[0]
+            made = json.loads(self.read(f"{self.room}/case.json"))["thermal_generators"]["g"]
+            self.assertEqual(made["piecewise_production"][-1], {"mw": 100, "cost": last})
+            due = f"left out: {told} that changes over time: its first is taken (1: g)\n"
+            self.assertEqual((due in lines, "over time" in lines), (told != "", told != ""))
+            for key in ("startup_capacity", "shutdown_capacity"):
+                self.assertIn(f"assumed: no {key}: there is no such limit but the ramp (1: g)\n", lines)
+
     def test_a_generator_of_egret_has_a_cost(self) -> None:
         value = other_forms.egret()
         unit = value["elements"]["generator"]["GT5"]

@@ -148,9 +148,9 @@ class Model:
         if most is None:
             raise HullError(f'generator "{name}": there is no p_max')
 
-        def ramp(key: str, factor: Fraction) -> Decimal:
+        def ramp(key: str) -> Decimal:
             found = self.number(unit, name, key, min)
-            return limit(None if found is None else scaled(found, factor), most or Decimal(0))
+            return limit(None if found is None else scaled(found, 1 / self.per_hour), most or Decimal(0))
 
         def time(key: str) -> int:
             return in_periods(unit.take(key, 0), self.per_hour, key, self.notes, name)
@@ -169,10 +169,10 @@ class Model:
             "must_run": 0,
             "power_output_minimum": least,
             "power_output_maximum": most,
-            "ramp_up_limit": ramp("ramp_up_60min", 1 / self.per_hour),
-            "ramp_down_limit": ramp("ramp_down_60min", 1 / self.per_hour),
-            "ramp_startup_limit": ramp("startup_capacity", Fraction(1)),
-            "ramp_shutdown_limit": ramp("shutdown_capacity", Fraction(1)),
+            "ramp_up_limit": ramp("ramp_up_60min"),
+            "ramp_down_limit": ramp("ramp_down_60min"),
+            "ramp_startup_limit": self.edge(unit, name, "startup_capacity", most),
+            "ramp_shutdown_limit": self.edge(unit, name, "shutdown_capacity", most),
             "time_up_minimum": time("min_up_time"),
             "time_down_minimum": down,
             "power_output_t0": power if power is not None and before["unit_on_t0"] else least * before["unit_on_t0"],
@@ -184,11 +184,34 @@ class Model:
         unit.drop("shutdown costs", "shutdown_cost")
         return found
 
+    def first_of(self, unit: Taken, name: str, key: str) -> Any:
+        """The curve of a unit; of a list over the periods the first one, which is noted where they differ."""
+        found = unit.take(key)
+        curves = values(found)
+        if curves is found or not isinstance(curves, list) or not curves:
+            return found
+        if any(it != curves[0] for it in curves):
+            self.notes.left_out(f"{key} that changes over time: its first is taken", name)
+        return curves[0]
+
+    def fuel_cost(self, unit: Taken, name: str) -> Decimal:
+        found = self.number(unit, name, "fuel_cost")
+        if found is None:
+            raise HullError(f"{one_line(name)}, fuel_cost: a number is due, and None is found")
+        return found
+
+    def edge(self, unit: Taken, name: str, key: str, most: Decimal) -> Decimal:
+        """The limit of a start or a stop."""
+        found = self.number(unit, name, key, min)
+        if found is None:
+            self.notes.assumed(f"no {key}: there is no such limit but the ramp", name)
+        return limit(found, most)
+
     def starts(self, unit: Taken, name: str) -> List[Object]:
         """Lags with costs, one cost for all, or lags with fuel."""
         what, rows = f"{name}, startup_cost", unit.take("startup_cost")
         if rows is None and unit.value.get("startup_fuel") is not None:
-            price = decimal(unit.take("fuel_cost"), f"{name}, fuel_cost")
+            price = self.fuel_cost(unit, name)
             other = decimal(unit.take("non_fuel_startup_cost", 0), f"{name}, non_fuel_startup_cost")
             fuel = pairs(unit.take("startup_fuel"), f"{name}, startup_fuel")
             rows = [[lag, decimal(burnt, f"{name}, startup_fuel") * price + other] for lag, burnt in fuel]
@@ -202,9 +225,9 @@ class Model:
 
     def curve(self, unit: Taken, name: str, least: Decimal, most: Decimal) -> List[Object]:
         """Points of the cost of a period."""
-        cost, factor = unit.take("p_cost"), Decimal(1)
+        cost, factor = self.first_of(unit, name, "p_cost"), Decimal(1)
         if cost is None and unit.value.get("p_fuel") is not None:
-            cost, factor = unit.take("p_fuel"), decimal(unit.take("fuel_cost"), f"{name}, fuel_cost")
+            cost, factor = self.first_of(unit, name, "p_fuel"), self.fuel_cost(unit, name)
         if cost is None:
             raise HullError(f'generator "{one_line(name)}": it has neither p_cost nor p_fuel; a p_cost of 0 is taken')
         if "fuel_cost" not in unit.seen:
