@@ -556,6 +556,15 @@ class Others(WithRoom):
             units["GT5"][key] = item
             self.assertRegex(self.refused_value(value), r"GT5, .*: 24 numbers are due, and (23|25|0) are found\n\Z")
 
+    def test_a_unit_is_named_once_for_each_thing(self) -> None:
+        def change(value: Dict[str, Any]) -> None:
+            unit = value["Generators"]["COAL1"]
+            key = "Production cost curve ($)"
+            unit[key] = [[cost + t for t in range(24)] for cost in unit[key]]
+
+        told = self.changed_instance(change)[1]
+        self.assertIn("Production cost curve ($) that changes over time: its first is taken (1: COAL1)\n", told)
+
     def test_a_time_step_of_nothing(self) -> None:
         value = other_forms.unit_commitment_jl()
         value["Parameters"]["Time step (min)"] = 0

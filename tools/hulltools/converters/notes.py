@@ -25,7 +25,7 @@ class Notes:
 
     def add(self, kind: Kind, text: str, name: Optional[str] = None) -> None:
         names = self.rows.setdefault((kind, text), [])
-        if name is not None:
+        if name is not None and name not in names[-1:]:  # (a unit may have several parts of which one thing is said)
             names.append(name)
 
     def left_out(self, text: str, name: Optional[str] = None) -> None:
