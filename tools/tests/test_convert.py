@@ -116,6 +116,15 @@ class Csv(WithRoom):
         self.convert(f"{self.room}/folder", f"{self.room}/again.json")
         self.assertEqual(self.read(f"{self.room}/again.json"), self.read(f"{self.room}/back.json"))
 
+    def test_a_block_that_stands_twice_is_told(self) -> None:
+        folder = self.folder()
+        bids = self.read(f"{folder}/bids.csv")
+        name = bids.splitlines()[1].split(",")[0]
+        self.write("csv/bids.csv", bids.replace("\n", "\n" + bids.splitlines()[1] + "\n", 1))
+        told = self.convert(folder, f"{self.room}/back.json")[0]
+        what = "rows of bids.csv that are alike are blocks of their own, and none stands there twice"
+        self.assertEqual(told, f"assumed: {what} (1: {name})\n")
+
     def test_columns_without_a_name(self) -> None:
         """A spreadsheet writes empty columns behind a table, and pandas an index in front of it; any other cell is refused."""
         folder = self.folder()

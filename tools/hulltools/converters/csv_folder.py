@@ -178,7 +178,7 @@ def read_csv(folder: str, notes: Notes) -> Object:
     case["thermal_generators"] = thermal_units(tables, periods)
     case["renewable_generators"] = renewable_units(tables["renewables.csv"], periods)
     if tables["bids.csv"] or os.path.exists(os.path.join(folder, "bids.csv")):
-        case["demand_bids"] = bids_of(tables["bids.csv"], periods)
+        case["demand_bids"] = bids_of(tables["bids.csv"], periods, notes)
     return case
 
 
@@ -220,13 +220,16 @@ def renewable_units(rows: List[Row], periods: int) -> Object:
     return units
 
 
-def bids_of(rows: List[Row], periods: int) -> Object:
+def bids_of(rows: List[Row], periods: int, notes: Notes) -> Object:
     bids: Object = {}
     for name, row in by_name(rows, "bid"):
         blocks = bids.setdefault(name, {"blocks": [[] for _ in range(periods)]})["blocks"]
         period = blocks[row.period(periods) - 1]  # (a period may have several rows: each is a block)
         if row["mw"] or row["price"]:
-            period.append({key: row.number(key) for key in ("mw", "price")})
+            block = {key: row.number(key) for key in ("mw", "price")}
+            if block in period:
+                notes.assumed("rows of bids.csv that are alike are blocks of their own, and none stands there twice", name)
+            period.append(block)
     return bids
 
 
