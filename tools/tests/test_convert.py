@@ -932,6 +932,24 @@ class Others(WithRoom):
         told = self.convert(f"{self.room}/net", f"{self.room}/case.json")[0]
         self.assertEqual(told, "assumed: no load in loads.csv: demand is 0 in all periods\n")
 
+    def test_a_cost_is_that_of_its_power_in_kilowatts(self) -> None:
+        """Powers between kilowatts had costs of their own beside those that hull rounds them to, and slopes beside the offer."""
+        head = "name,bus,p_nom,committable,p_min_pu,marginal_cost,marginal_cost_quadratic\n"
+        self.small_network(f"{head}g,b,100.0009,True,0.333333,20,\nh,b,100.0009,True,0.333333,20,0.01\n")
+        cost = {"data_type": "cost_curve", "cost_curve_type": "polynomial", "values": {"1": 20, "2": 0.01}}
+        units = [read_case(f"{self.room}/case.json").thermal]
+        generators = {
+            name: {"generator_type": "thermal", "p_min": 33.33333, "p_max": 100.0009, "p_cost": it}
+            for name, it in (("g", 20), ("h", cost))
+        }
+        model = {"elements": {"generator": generators}, "system": {"time_keys": ["1", "2"]}}
+        other_forms.write_json(f"{self.room}/model.json", model)
+        self.convert(f"{self.room}/model.json", f"{self.room}/case.json")
+        for line, curve in (*units, read_case(f"{self.room}/case.json").thermal):
+            self.assertEqual([cost for _, cost in line.points], [at * 20_000 for at, _ in line.points])
+            due = [at * 20_000 + (at * at + 50) // 100 for at, _ in curve.points]
+            self.assertEqual([cost for _, cost in curve.points], due)
+
     def test_a_quadratic_cost_alone_is_a_cost(self) -> None:
         head = "name,bus,p_nom,committable,marginal_cost_quadratic,ramp_limit_up,p_init\n"
         told, case = self.small_network(f"{head}g,b,10,False,0.5,0.3,4\nh,b,10,False,0,,\n")

@@ -14,6 +14,7 @@ from .series import (
     first,
     flag,
     in_periods,
+    in_pieces,
     length_in_words,
     limit,
     lists_out_negative,
@@ -242,7 +243,8 @@ class Model:
         """Powers and costs of a number, of a list of pairs, or of a polynomial."""
         what = f"{name}, p_cost"
         if is_number(cost):
-            return [least, most], [decimal(cost, what) * it for it in (least, most)]
+            powers = in_pieces(least, most, 1)
+            return powers, [decimal(cost, what) * it for it in powers]
         if not isinstance(cost, dict) or "values" not in cost:
             raise HullError(f"{what}: a number or a cost curve is due")
         if "polynomial" in (cost.get("cost_curve_type"), cost.get("fuel_curve_type")):
@@ -259,7 +261,7 @@ class Model:
         pieces = PIECES if any(power > 1 and factor for power, factor in terms) and most > least else 1
         if pieces > 1:
             self.notes.changed(f"polynomial costs are cut into {PIECES} straight pieces", name)
-        powers = [least + (most - least) * i / pieces for i in range(pieces + 1)]
+        powers = in_pieces(least, most, pieces)
         # (Decimal has no 0 to the power of 0)
         rows = ([factor * at**power if power else factor for power, factor in terms] for at in powers)
         return powers, [sum(row, Decimal(0)) for row in rows]

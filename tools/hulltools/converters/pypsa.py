@@ -8,7 +8,7 @@ from typing import Dict, List, Optional, Tuple
 
 from ..errors import HullError, one_line, read_bytes, refuse_line_end, refuse_twice_named, rows_in
 from .notes import Notes, Object
-from .series import cell_number, lists_out_negative, points_of, scaled
+from .series import cell_number, in_pieces, lists_out_negative, points_of, scaled
 
 PIECES = 10  # how many lines a quadratic cost is cut into
 INFINITE = ("inf", "+inf", "infinity", "+infinity")  # (of a ramp: there is no limit)
@@ -355,7 +355,7 @@ class Network:
         pieces = PIECES if square and most > least else 1
         if pieces > 1:
             self.notes.changed(f"quadratic costs are cut into {PIECES} straight pieces", name)
-        powers = [least + (most - least) * i / pieces for i in range(pieces + 1)]
+        powers = in_pieces(least, most, pieces)
         costs = [scaled(fixed + cost * at + square * at * at, self.hours) for at in powers]
         return points_of(powers, costs, f'generator "{name}"')
 

@@ -2,12 +2,13 @@
 from __future__ import annotations
 
 import re
-from decimal import ROUND_CEILING, Decimal
+from decimal import Decimal
 from fractions import Fraction
 from typing import Any, Callable, List, Optional, Sequence, Tuple
 
 from ..errors import HullError, one_line
 from ..json_texts import Refused, counted, is_number
+from ..numbers import kilowatts
 from .notes import Notes, Object
 
 NO_LIMIT = Decimal(10) ** 6  # what other programs write where there is no limit, or more
@@ -109,8 +110,10 @@ def scaled(number: Decimal, factor: Fraction) -> Decimal:
     return number * factor.numerator / factor.denominator
 
 
-def up(number: Decimal) -> int:
-    return int(number.to_integral_value(ROUND_CEILING))
+def in_pieces(least: Decimal, most: Decimal, pieces: int) -> List[Decimal]:
+    """The powers where the pieces of a cost begin and end, in whole kilowatts, as hull reads them: so each cost is that of its power."""
+    powers = (least + (most - least) * i / pieces for i in range(pieces + 1))
+    return [Decimal(kilowatts(it)) / 1000 for it in powers]
 
 
 def limit(value: Optional[Decimal], most: Decimal) -> Decimal:
