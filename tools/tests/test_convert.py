@@ -902,6 +902,12 @@ class Others(WithRoom):
             self.assertIn(due, told)
             self.assertEqual(bool(due), "_time_before" in told)
 
+    def test_power_of_a_unit_of_pypsa_that_is_off(self) -> None:
+        head = "name,bus,p_nom,committable,up_time_before,p_init\n"
+        told, case = self.small_network(f"{head}g,b,10,True,0,4\nh,b,10,True,2,4\ni,b,10,True,0,0\n")
+        self.assertEqual([it["power_output_t0"] for it in case["thermal_generators"].values()], [0, 4, 0])
+        self.assertEqual(told, "changed: p_init of a unit that is off before the first snapshot is taken as 0 (1: g)\n")
+
     def test_signs_and_carriers_of_pypsa(self) -> None:
         """A sign of 0.001 has p_nom in kW, and one of -1 takes power; a load of heat is none of power."""
         for sign in ("-1.0", "0.001"):

@@ -307,6 +307,18 @@ class Network:
             self.notes.assumed(what, name)
         return on, 0 if on else off or max(1, min_off)
 
+    def power_before(self, name: str, is_on: bool, halfway: Decimal) -> Decimal:
+        """The power before the first snapshot, which few networks have."""
+        found = self.value(name, "p_init")
+        if not is_on:
+            if found:
+                self.notes.changed("p_init of a unit that is off before the first snapshot is taken as 0", name)
+            return Decimal(0)
+        if found is None:
+            what = "PyPSA has no power before the first snapshot: of a unit that is on it is halfway from the least to the greatest"
+            self.notes.assumed(what, name)
+        return halfway if found is None else found
+
     def thermal(self, name: str, least_pu: Decimal, most_pu: Decimal, cost: Decimal) -> Object:
         size = self.size(name)
         least, most = size * least_pu, size * most_pu
@@ -322,13 +334,6 @@ class Network:
             self.notes.changed(
                 "generators that aren't committable and have a cost run in all periods, from p_min_pu on", name
             )
-        power = (self.value(name, "p_init") or Decimal(0)) if on else Decimal(0)
-        if on and self.value(name, "p_init") is None:
-            power = (least + most) / 2
-            self.notes.assumed(
-                "PyPSA has no power before the first snapshot: of a unit that is on it is halfway from the least to the greatest",
-                name,
-            )
         start = scaled(self.value(name, "start_up_cost") or Decimal(0), Fraction(1))
         return {
             "must_run": 0 if committable else 1,
@@ -340,7 +345,7 @@ class Network:
             "ramp_shutdown_limit": ramp("ramp_limit_shut_down"),
             "time_up_minimum": self.whole(name, "min_up_time", 0),
             "time_down_minimum": min_off,
-            "power_output_t0": power,
+            "power_output_t0": self.power_before(name, on > 0, (least + most) / 2),
             "unit_on_t0": int(on > 0),
             "time_up_t0": on,
             "time_down_t0": off,

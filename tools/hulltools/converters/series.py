@@ -112,7 +112,7 @@ def scaled(number: Decimal, factor: Fraction) -> Decimal:
 
 def in_pieces(least: Decimal, most: Decimal, pieces: int) -> List[Decimal]:
     """The powers where the pieces of a cost begin and end, in whole kilowatts, as hull reads them: so each cost is that of its power."""
-    powers = (least + (most - least) * i / pieces for i in range(pieces + 1))
+    powers = [*(least + (most - least) * i / pieces for i in range(pieces)), most]
     return [Decimal(kilowatts(it)) / 1000 for it in powers]
 
 
