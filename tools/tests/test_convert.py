@@ -943,15 +943,15 @@ class Others(WithRoom):
         head = "name,bus,p_nom,committable,p_min_pu,marginal_cost,marginal_cost_quadratic\n"
         self.small_network(f"{head}g,b,100.0009,True,0.333333,20,\nh,b,100.0009,True,0.333333,20,0.01\n")
         cost = {"data_type": "cost_curve", "cost_curve_type": "polynomial", "values": {"1": 20, "2": 0.01}}
-        units = [read_case(f"{self.room}/case.json").thermal]
-        generators = {
-            name: {"generator_type": "thermal", "p_min": 33.33333, "p_max": 100.0009, "p_cost": it}
-            for name, it in (("g", 20), ("h", cost))
-        }
-        model = {"elements": {"generator": generators}, "system": {"time_keys": ["1", "2"]}}
+        pairs = [read_case(f"{self.room}/case.json").thermal]
+        model: Dict[str, Any] = {"elements": {"generator": {}}, "system": {"time_keys": ["1", "2"]}}
+        square = {"data_type": "cost_curve", "cost_curve_type": "polynomial", "values": {"1": 20, "2": 0.01}}
+        for name, cost in (("g", 20), ("h", square)):
+            unit = {"generator_type": "thermal", "p_min": 33.33333, "p_max": 100.0009, "p_cost": cost}
+            model["elements"]["generator"][name] = unit
         other_forms.write_json(f"{self.room}/model.json", model)
         self.convert(f"{self.room}/model.json", f"{self.room}/case.json")
-        for line, curve in (*units, read_case(f"{self.room}/case.json").thermal):
+        for line, curve in (*pairs, read_case(f"{self.room}/case.json").thermal):
             self.assertEqual([cost for _, cost in line.points], [at * 20_000 for at, _ in line.points])
             due = [at * 20_000 + (at * at + 50) // 100 for at, _ in curve.points]
             self.assertEqual([cost for _, cost in curve.points], due)
