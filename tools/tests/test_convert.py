@@ -116,6 +116,21 @@ class Csv(WithRoom):
         self.convert(f"{self.room}/folder", f"{self.room}/again.json")
         self.assertEqual(self.read(f"{self.room}/again.json"), self.read(f"{self.room}/back.json"))
 
+    def test_flags_may_be_true_and_false(self) -> None:
+        folder = self.folder()
+        head, *rows = (row.split(",") for row in self.read(f"{folder}/units.csv").splitlines())
+        due = read_case(f"{self.room}/case.json")
+        for texts in (("False", "True"), ("FALSE", "TRUE")):
+            for row in rows:
+                for place in map(head.index, ("must_run", "unit_on_t0")):
+                    row[place] = texts[row[place] in ("1", "True")]
+            self.write("csv/units.csv", "\n".join(",".join(row) for row in (head, *rows)))
+            self.convert(folder, f"{self.room}/back.json")
+            self.assertEqual(read_case(f"{self.room}/back.json"), due)
+        self.write("csv/windows.csv", "unit,period,commitment\nGT5,2,True\n")
+        self.convert(folder, f"{self.room}/back.json")
+        self.assertEqual(json.loads(self.read(f"{self.room}/back.json"))["thermal_generators"]["GT5"]["commitment"][1], 1)
+
     def test_a_block_that_stands_twice_is_told(self) -> None:
         folder = self.folder()
         bids = self.read(f"{folder}/bids.csv")
@@ -922,6 +937,12 @@ class Others(WithRoom):
             told = self.small_network(generators)[0]
             due = "left out: carriers of the buses: loads and generators of all of them are taken as of power (3: AC, DC, heat)\n"
             self.assertEqual(due in told, count > 0)
+
+    def test_cells_of_pypsa_that_semicolons_part(self) -> None:
+        for sign in ";\t":
+            told, _ = self.small_network("name,bus,p_nom\ng,b,10\n".replace(",", sign), status=1)
+            what = "commas are due between its cells, as PyPSA writes them, and semicolons or tabs are found"
+            self.assertEqual(told, f"convert.py: net/generators.csv: {what}\n")
 
     def test_flags_of_pypsa(self) -> None:
         for key, text in (("committable", "yes"), ("committable", "T"), ("active", "on"), ("p_nom_extendable", "2")):

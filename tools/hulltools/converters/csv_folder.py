@@ -25,6 +25,8 @@ COLUMNS: Dict[str, List[str]] = {
 TOOL = "convert.py"
 NEEDED = ("units.csv", "offers.csv", "hours.csv")
 NAMES = ("unit", "bid")  # columns of names, which may have several lines
+FLAGS = ("must_run", "unit_on_t0", "commitment")
+FLAG_TEXTS = {"true": "1", "false": "0"}  # (spreadsheets and pandas write flags so)
 NUMBER = re.compile(r"-?(0|[1-9][0-9]*)(\.[0-9]+)?([eE][-+]?[0-9]+)?")
 THOUSANDS = re.compile(r"[-+]?[1-9][0-9]{0,2}([,.][0-9]{3})+")  # what may have signs between thousands
 SURE = "sure"
@@ -41,7 +43,7 @@ class Row(Dict[str, str]):
         return HullError(f"{self.place}: {one_line(what)}")
 
     def number(self, column: str) -> Written:
-        text = self[column]
+        text = FLAG_TEXTS.get(self[column].lower(), self[column]) if column in FLAGS else self[column]
         if not NUMBER.fullmatch(text):
             what = (
                 "is empty"
