@@ -923,6 +923,13 @@ class Others(WithRoom):
         self.assertEqual([it["power_output_t0"] for it in case["thermal_generators"].values()], [0, 4, 0])
         self.assertEqual(told, "changed: p_init of a unit that is off before the first snapshot is taken as 0 (1: g)\n")
 
+    def test_ramps_in_the_first_snapshot_of_pypsa_are_told(self) -> None:
+        head = "name,bus,p_nom,committable,marginal_cost,p_init,ramp_limit_up,ramp_limit_down,ramp_limit_shut_down\n"
+        rows = "a,True,1,5,,,\nb,True,1,5,0.4,,\nc,True,1,5,,0.4,\nd,True,1,5,,,0.4\ne,False,1,5,,,0.4\nf,True,1,,0.5,0.5,\n"
+        told, _ = self.small_network(head + re.sub("(?m)^(.),", r"\1,b,10,", rows))
+        line = next(it for it in told.splitlines() if it.startswith("changed: the first snapshot"))
+        self.assertEqual(line.split(";")[1], " the column p_init of generators.csv gives that power (3: b, c, d)")
+
     def test_signs_and_carriers_of_pypsa(self) -> None:
         """A sign of 0.001 has p_nom in kW, and one of -1 takes power; a load of heat is none of power."""
         for sign in ("-1.0", "0.001"):

@@ -338,7 +338,7 @@ class Network:
                 "generators that aren't committable and have a cost run in all periods, from p_min_pu on", name
             )
         start = scaled(self.value(name, "start_up_cost") or Decimal(0), Fraction(1))
-        return {
+        found: Object = {
             "must_run": 0 if committable else 1,
             "power_output_minimum": least,
             "power_output_maximum": most,
@@ -355,6 +355,19 @@ class Network:
             "startup": [{"lag": max(1, min_off), "cost": start}] if start else [],
             "piecewise_production": self.curve(name, least, most, cost),
         }
+        if on > 0:
+            self.tell_first_ramps(name, found)
+        return found
+
+    def tell_first_ramps(self, name: str, unit: Object) -> None:
+        """Notes that limits bind in the first snapshot, from the power before it: PyPSA has none there."""
+        power = unit["power_output_t0"]
+        least, most = (unit[f"power_output_{it}"] for it in ("minimum", "maximum"))
+        can_stop = power <= unit["ramp_shutdown_limit"] or unit["must_run"]
+        may_fall, may_rise = power - unit["ramp_down_limit"] <= least, power + unit["ramp_up_limit"] >= most
+        if not (can_stop and may_fall and may_rise):
+            what = "the first snapshot: ramps and stops hold from the power before it, where PyPSA leaves them free"
+            self.notes.changed(f"{what}; the column p_init of generators.csv gives that power", name)
 
     def curve(self, name: str, least: Decimal, most: Decimal, cost: Decimal) -> List[Object]:
         square = self.value(name, "marginal_cost_quadratic") or Decimal(0)
