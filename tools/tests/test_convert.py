@@ -129,7 +129,8 @@ class Csv(WithRoom):
             self.assertEqual(read_case(f"{self.room}/back.json"), due)
         self.write("csv/windows.csv", "unit,period,commitment\nGT5,2,True\n")
         self.convert(folder, f"{self.room}/back.json")
-        self.assertEqual(json.loads(self.read(f"{self.room}/back.json"))["thermal_generators"]["GT5"]["commitment"][1], 1)
+        made = json.loads(self.read(f"{self.room}/back.json"))["thermal_generators"]
+        self.assertEqual(made["GT5"]["commitment"][1], 1)
 
     def test_a_block_that_stands_twice_is_told(self) -> None:
         folder = self.folder()
@@ -677,12 +678,12 @@ class Others(WithRoom):
     def test_costs_of_egret_over_time(self) -> None:
         """A curve or a fuel cost of each period: the first is taken, which is told where another differs."""
         curves = [{"data_type": "cost_curve", "values": [[50, 1], [100, at]]} for at in (9, 9, 8)]
-        fuel = {"data_type": "fuel_curve", "values": [[50, 2], [100, 5]]}
+        over_time, fuel = other_forms.over_time, {"data_type": "fuel_curve", "values": [[50, 2], [100, 5]]}
         for fields, last, told in (
-            ({"p_cost": other_forms.over_time(curves[:2])}, 9, ""),
-            ({"p_cost": other_forms.over_time(curves[1:])}, 9, "p_cost"),
-            ({"p_fuel": fuel, "fuel_cost": other_forms.over_time([3, 3])}, 15, ""),
-            ({"p_fuel": other_forms.over_time([fuel] * 2), "fuel_cost": other_forms.over_time([3, 4])}, 15, "fuel_cost"),
+            ({"p_cost": over_time(curves[:2])}, 9, ""),
+            ({"p_cost": over_time(curves[1:])}, 9, "p_cost"),
+            ({"p_fuel": fuel, "fuel_cost": over_time([3, 3])}, 15, ""),
+            ({"p_fuel": over_time([fuel] * 2), "fuel_cost": over_time([3, 4])}, 15, "fuel_cost"),
         ):
             value = {"elements": {}, "system": {"time_keys": ["1", "2"]}}
             unit = {"generator_type": "thermal", "p_min": 50, "p_max": 100, **fields}

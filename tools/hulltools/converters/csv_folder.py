@@ -230,7 +230,8 @@ def bids_of(rows: List[Row], periods: int, notes: Notes) -> Object:
         if row["mw"] or row["price"]:
             block = {key: row.number(key) for key in ("mw", "price")}
             if block in period:
-                notes.assumed("rows of bids.csv that are alike are blocks of their own, and none stands there twice", name)
+                what = "rows of bids.csv that are alike are blocks of their own, and none stands there twice"
+                notes.assumed(what, name)
             period.append(block)
     return bids
 

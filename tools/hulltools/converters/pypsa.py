@@ -77,7 +77,8 @@ def table(folder: str, file: str) -> Table:
     if not rows or not rows[0]:
         raise HullError(f"{name}: it has no first line with columns")
     if len(rows[0]) == 1 and re.search("[;\t]", rows[0][0]):
-        raise HullError(f"{name}: commas are due between its cells, as PyPSA writes them, and semicolons or tabs are found")
+        what = "commas are due between its cells, as PyPSA writes them, and semicolons or tabs are found"
+        raise HullError(f"{name}: {what}")
     level = next((LEVELS[it] for it in rows[0][:2] if it in LEVELS), None)
     if level:
         raise HullError(f"{name}: a network of several {level} isn't read: write one of them")
