@@ -946,6 +946,12 @@ class Others(WithRoom):
             due = "left out: carriers of the buses: loads and generators of all of them are taken as of power (3: AC, DC, heat)\n"
             self.assertEqual(due in told, count > 0)
 
+    def test_empty_rows_of_pypsa_are_passed_over(self) -> None:
+        """An empty row of snapshots.csv was a period more, and one of generators.csv a unit."""
+        generators, snapshots = "name,bus,p_nom\ng,b,10\n", ",snapshot,objective\n0,a,1\n1,b,1\n"
+        due = self.small_network(generators, snapshots)
+        self.assertEqual(self.small_network(f"{generators},,\n\n", f"{snapshots},,\n , ,\n"), due)
+
     def test_cells_of_pypsa_that_semicolons_part(self) -> None:
         for sign in ";\t":
             told, _ = self.small_network("name,bus,p_nom\ng,b,10\n".replace(",", sign), status=1)

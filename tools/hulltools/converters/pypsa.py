@@ -86,8 +86,9 @@ def table(folder: str, file: str) -> Table:
     refuse_twice_named(columns, name)
     if any(len(row) > len(rows[0]) for row in rows):
         raise HullError(f"{name}: a row has more cells than the first line has columns")
-    found = {row[0]: {**dict.fromkeys(columns, ""), **dict(zip(columns, row[1:]))} for row in rows[1:] if row}
-    if len(found) < sum(map(bool, rows[1:])):
+    filled = [row for row in rows[1:] if any(map(str.strip, row))]  # (a spreadsheet writes empty ones behind a table)
+    found = {row[0]: {**dict.fromkeys(columns, ""), **dict(zip(columns, row[1:]))} for row in filled}
+    if len(found) < len(filled):
         raise HullError(f"{name}: a name of the first column stands twice")
     return found
 
