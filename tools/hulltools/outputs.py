@@ -168,7 +168,8 @@ class Priced(Text, PriceSource):
 
     @property
     def prices(self) -> Prices:
-        return Prices(self.best.energy, self.best.reserve)
+        """The prices, with lists of their own: a script may change them, and the text stays as it was printed."""
+        return Prices(list(self.best.energy), list(self.best.reserve))
 
     @property
     def value(self) -> Millionths:

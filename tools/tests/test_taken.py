@@ -37,6 +37,15 @@ class Texts(unittest.TestCase):
         self.assertEqual(whole, hulltools.certify(*USUAL, convex.prices, convex.mixture, hull=PROGRAM))
         self.assertEqual((whole.bound, whole.distance), (convex.bound, convex.distance))
 
+    def test_prices_that_are_changed_leave_their_text_as_it_is(self):
+        for text in (settled(hulltools.per_mwh(98)), hulltools.price(*USUAL, hull=PROGRAM)):
+            due = text.prices
+            for step in (1, 2):
+                prices = text.prices
+                prices.energy[0] += 1000
+                self.assertEqual(prices.energy[0] - due.energy[0], 1000, step)
+            self.assertEqual(text, hulltools.read_output(text.printed.decode()))
+
     def test_a_file_of_a_text_is_taken_for_its_prices(self):
         due = settled(hulltools.read_output(f"{EXAMPLES}/usual/price.output").prices)
         for name in (f"{EXAMPLES}/usual/price.output", pathlib.Path(EXAMPLES, "usual", "price.output")):
