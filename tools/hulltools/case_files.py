@@ -1,4 +1,5 @@
 """A case as its file, exact to the kilowatt and the millionth, and cases that are changed in one respect."""
+import copy
 import re
 from collections.abc import Iterable, Mapping, Sequence
 from dataclasses import replace
@@ -113,9 +114,15 @@ def scaled_powers(powers: list[Kilowatts], factor: Fraction) -> list[Kilowatts]:
     return [Kilowatts(power) for power in times(powers, factor)]
 
 
+def copy_of(case: Case) -> Case:
+    """The case with plain numbers in units and lists of its own: what a script changes in one of the two isn't changed in the other."""
+    return copy.deepcopy(with_plain_numbers(case))
+
+
 def scaled(case: Case, demand: Factor, renewable: Factor, offers: Mapping[str, Factor]) -> Case:
-    """The case with its demand, renewable powers and cost curves times these; start costs stay."""
+    """A copy of the case with its demand, renewable powers and cost curves times these; start costs stay."""
     need_offers(case, offers)
+    case = copy_of(case)
     sun = factor_of(renewable, "renewable")
     units = [scaled_offer(unit, factor_of(offers.get(unit.name, 1), unit.name)) for unit in case.thermal]
     winds = [
@@ -139,7 +146,9 @@ def kind_meant(case: Case, name: str, kind: Optional[str]) -> str:
 
 
 def without(case: Case, names: Sequence[str], kind: Optional[str] = None) -> Case:
+    """A copy of the case without these."""
     left = {(kind_meant(case, name, kind), name) for name in names}
+    case = copy_of(case)
     return replace(
         case,
         thermal=[unit for unit in case.thermal if ("thermal", unit.name) not in left],

@@ -345,6 +345,21 @@ class Options(Refusals):
             )
         )
 
+    def test_a_changed_case_has_units_and_lists_of_its_own(self):
+        """What a script sets in one of them isn't set in the other."""
+        for change in (lambda case: case.scaled(), lambda case: case.without()):
+            case = hulltools.read_case(f"{EXAMPLES}/evening/case.json")
+            due = case.text()
+            found = change(case)
+            self.assertEqual(found.text(), due)
+            for numbers in (found.demand, found.reserves, found.renewable[0].most):
+                numbers[0] += 1000
+            found.unit("G1").must_run, found.unit("G1").marks[0] = 1, 1
+            found.unit("G1").lags.append((99, 10**9))
+            found.bids[0].blocks[0].clear()
+            self.assertNotEqual(found.text(), due)
+            self.assertEqual(case.text(), due)
+
     def test_a_factor_of_many_digits(self):
         for factor in ("1e-99999999", Decimal("1e-9999999"), "1E+1000"):
             self.refused(
@@ -359,6 +374,8 @@ class Options(Refusals):
             lambda case: hulltools.check(case, USUAL[1], PROGRAM),
             lambda case: hulltools.frames([], case),
             hulltools.inputs.as_case,
+            lambda case: case.scaled(),
+            lambda case: case.without(),
         )
         for owner, member, value, where, unit, period in (
             ((), "demand", [8000.5], f"demand of period 1 is 8000.5: {due}", None, 1),
