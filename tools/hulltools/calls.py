@@ -12,7 +12,8 @@ import io
 import os
 import re
 import tempfile
-from typing import TYPE_CHECKING, Any, Callable, Dict, Iterator, List, Mapping, Optional, Sequence
+from argparse import Namespace
+from typing import TYPE_CHECKING, Dict, Iterator, List, Mapping, Optional, Sequence
 
 from .cases import TIME, Case
 from .errors import HullError, Name, Tell
@@ -258,14 +259,15 @@ def words_of(options: Dict[str, object]) -> List[str]:
     return found
 
 
-def asked_of(read: Callable[[Sequence[str]], Any], words: Sequence[str], options: Mapping[str, object]) -> Any:
+def asked_of(words: Sequence[str], options: Mapping[str, object]) -> Namespace:
     """What the words of study.py ask for. Where it refuses an option this is told with its name."""
-    said = io.StringIO()
+    from .commands.study import arguments
+    from .commands.words import AskerOfACall, NotTaken
+
     try:
-        with contextlib.redirect_stderr(said), contextlib.redirect_stdout(said):
-            return read(words)
-    except SystemExit:
-        usage, _, why = said.getvalue().strip().rpartition(" error: ")
+        return arguments(words, AskerOfACall)
+    except NotTaken as refused:
+        why, usage = refused.why, refused.usage
     found = re.search(r"unrecognized arguments: --([\w-]+)", why)
     if found:
         name = next((key for key in options if key.replace("_", "-") == found[1]), found[1])
@@ -347,7 +349,7 @@ def study(
     """
     need_scipy()
     said = in_words_of_a_call(tell)
-    from .commands.study import arguments, inputs_of, study_of, write_results
+    from .commands.study import inputs_of, study_of, write_results
     from .study_folder import StudyFolder
 
     with tempfile.TemporaryDirectory(prefix="hull-study-") as folder_of_files:
@@ -367,7 +369,7 @@ def study(
         words += [f"--hull={os.fspath(hull)}"] if hull else []
         words = [room.name_of("case", case), to, *words]
         with told_of_a_call():
-            asked = asked_of(arguments, words, options)
+            asked = asked_of(words, options)
         program = Hull(hull, tell, asked.seconds)
         with told_to(tell), told_of_a_call(), room.told(), StudyFolder(to, inputs_of(asked)) as place_of:
             found = study_of(asked, words, program, place_of.room, said, place_of.refuse)

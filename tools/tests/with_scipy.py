@@ -1,6 +1,8 @@
 """What of the package needs SciPy; test_package.py runs these in a Python that has it. Cases are those of examples/."""
+import argparse
 import copy
 import base64
+import concurrent.futures
 import contextlib
 import csv
 import hashlib
@@ -13,6 +15,7 @@ import re
 import shutil
 import sys
 import tempfile
+import threading
 import unittest
 import zoneinfo
 from datetime import datetime
@@ -759,6 +762,27 @@ class Calls(unittest.TestCase):
         hulltools.study(self.case, made, hull=PROGRAM, tell=said.append, skip=["elmp"])
         self.assertTrue([line for line in said if line.startswith("LMP: gap ")], said)
         self.assertTrue(all(isinstance(line, str) and "--" not in line for line in said), said)
+
+    def test_studies_of_several_threads_leave_standard_output_as_it_is(self):
+        """Their words are read at one time, and nothing that another thread prints meanwhile may be lost."""
+        printed, begun = io.StringIO(), threading.Barrier(2)
+
+        def words_read(self, words):
+            begun.wait(30)  # (each reads its words while the other does)
+            print("read")
+            begun.wait(30)
+            return argparse.ArgumentParser.parse_args(self, words)
+
+        def study(title):
+            lists = [it.key for it in LISTS if it.key != "lmp"]
+            return hulltools.study(self.case, self.schedule, hull=PROGRAM, skip=lists, no_schedule=True, title=title)
+
+        asker = mock.patch("hulltools.commands.words.Asker.parse_args", words_read, create=True)
+        with contextlib.redirect_stdout(printed), asker, concurrent.futures.ThreadPoolExecutor(2) as pool:
+            found = list(pool.map(study, ("one", "other")))
+            self.assertIs(sys.stdout, printed)
+        self.assertEqual([it.wanted.title for it in found], ["one", "other"])
+        self.assertEqual(printed.getvalue(), "read\n" * 2)
 
     def program(self, part):
         """The first program of docs/PYTHON.md that has a part."""

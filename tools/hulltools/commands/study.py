@@ -53,7 +53,7 @@ import os
 from collections.abc import Callable, Sequence
 from dataclasses import dataclass, replace
 from types import SimpleNamespace
-from typing import TYPE_CHECKING, Optional
+from typing import TYPE_CHECKING, Optional, Type
 
 from ..cases import Case, read_case
 from ..clock import Clock
@@ -74,6 +74,7 @@ from ..zones import read_zones
 from .make_schedule import make
 from .words import (
     MISSED_GAP,
+    Asker,
     add_fast_start,
     add_search_limits,
     asker,
@@ -97,8 +98,8 @@ def named_file(text: str) -> tuple[str, str]:
     return name, file
 
 
-def arguments(words: Sequence[str]) -> argparse.Namespace:
-    ask = asker("study.py", __doc__)
+def arguments(words: Sequence[str], kind: Type[Asker] = Asker) -> argparse.Namespace:
+    ask = asker("study.py", __doc__, kind)
     for word in ("case", "folder", "--schedule", "--zones", "--hull"):
         ask.add_argument(word)
     best = ask.add_mutually_exclusive_group()

@@ -8,7 +8,7 @@ import re
 from datetime import datetime
 from fractions import Fraction
 from types import SimpleNamespace
-from typing import NoReturn, Optional, TypeVar, Union
+from typing import NoReturn, Optional, Type, TypeVar, Union
 
 from ..fast_start import FastStart
 from ..numbers import millionths
@@ -33,6 +33,24 @@ class Asker(argparse.ArgumentParser):
         super().error(one_line(message))
 
 
+class NotTaken(Exception):
+    """Why words are refused, and the usage that says which are taken; an empty text where this alone was asked for."""
+
+    def __init__(self, why: str, usage: str) -> None:
+        super().__init__(why)
+        self.why, self.usage = why, usage
+
+
+class AskerOfACall(Asker):
+    """The same for a call of the package, which prints nothing: standard output and error are those of all threads."""
+
+    def error(self, message: str) -> NoReturn:
+        raise NotTaken(one_line(message), self.format_usage())
+
+    def print_help(self, file: object = None) -> NoReturn:
+        self.error("")
+
+
 def description_of(tool: str) -> str:
     """A tool's description as its source has it: `python3 -OO` leaves such texts out."""
     import ast
@@ -42,9 +60,9 @@ def description_of(tool: str) -> str:
         return ast.get_docstring(ast.parse(file.read()), clean=False) or ""
 
 
-def asker(tool: str, doc: Optional[str]) -> Asker:
+def asker(tool: str, doc: Optional[str], kind: Type[Asker] = Asker) -> Asker:
     """A reader of words whose usage is that of the tool's description."""
-    return Asker(prog=tool, usage=(doc or description_of(tool)).split("usage: ")[1].rstrip().replace("%", "%%"))
+    return kind(prog=tool, usage=(doc or description_of(tool)).split("usage: ")[1].rstrip().replace("%", "%%"))
 
 
 def within(number: Range, least: Range, most: Range) -> Range:
