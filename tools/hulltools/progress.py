@@ -63,8 +63,11 @@ class Progress:
         self.steps[-1] = Step(what)
 
 
-class Now:
-    """Who wants to hear of steps: a tool that runs, or, within a process that it started, what passes them on to it."""
+class Now(threading.local):
+    """Who wants to hear of steps: a tool that runs, or, within a process that it started, what passes them on to it.
+
+    Each thread has its own: a script may make several calls at once, each with its own `tell`.
+    """
 
     def __init__(self) -> None:
         self.progress: Optional[Progress] = None

@@ -13,7 +13,7 @@ import tempfile
 import threading
 import time
 import unittest
-from typing import Callable, Iterator, List, Tuple
+from typing import Callable, Dict, Iterator, List, Tuple
 from unittest import mock
 
 from tool import EXAMPLES, PROGRAM, ROOT, python_with
@@ -92,6 +92,26 @@ class Told(Room):
     def test_a_step_within_another_is_told_with_it(self) -> None:
         said = self.lines(False, [(0.0, "LMP"), (5.0, "hull settle")], 8.0)
         self.assertEqual(said.splitlines(), ["tool.py: LMP: 2 s", "tool.py: LMP: hull settle: 2 s"])
+
+    def test_each_thread_tells_its_own_steps(self) -> None:
+        """Two calls at one time, each with a `tell` of its own."""
+        both = threading.Barrier(2)
+        said: Dict[str, List[object]] = {"one": [], "other": []}
+
+        def work(what: str) -> None:
+            with progress.told_to(said[what].append), progress.step(what):
+                both.wait(30)
+                if progress.NOW.progress:
+                    progress.NOW.progress.look(progress.NOW.progress.steps[-1].began + 2)
+                both.wait(30)
+
+        with mock.patch.dict(os.environ, HULL_PROGRESS="1"):
+            threads = [threading.Thread(target=work, args=(what,)) for what in said]
+            for thread in threads:
+                thread.start()
+            for thread in threads:
+                thread.join()
+        self.assertEqual(said, {what: [f"{what}: 2 s"] for what in said})
 
     def test_without_room_for_a_thread_nothing_is_told(self) -> None:
         why = RuntimeError("can't start new thread")
