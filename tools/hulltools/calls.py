@@ -31,7 +31,6 @@ from .inputs import (
     content_of,
     is_name,
     told,
-    with_price_lists,
 )
 from .linear import need_scipy
 from .numbers import millionths
@@ -361,8 +360,7 @@ def study(
             best = room.name_of("schedule", best_schedule, "the best schedule given", "best-schedule")
             words.append(f"--best-schedule={best}")
         if zones is not None:
-            given_zones = with_price_lists(zones, read) if isinstance(zones, dict) else zones
-            words.append(f"--zones={room.name_of('zones', given_zones)}")
+            words.append(f"--zones={room.name_of('zones', zones if is_name(zones) else as_zones(zones, read))}")
         for place, (name, exact) in enumerate(named_prices(prices, read).items()):
             told_as = f"the prices {name} given"
             words.append(f"--prices={name}={room.name_of('prices', exact, told_as, f'{place}.prices')}")

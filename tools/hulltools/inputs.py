@@ -237,19 +237,25 @@ def with_price_lists(given: dict[str, Any], case: Case) -> dict[str, Any]:
     zones = given.get("zones")
     if not isinstance(zones, dict):
         return given
-    lists = {zone: one if not isinstance(one, PriceSource) else in_file(one, case) for zone, one in zones.items()}
+    lists = {zone: one if not isinstance(one, PriceSource) else in_file(zone, one, case) for zone, one in zones.items()}
     return {**given, "zones": lists}
 
 
-def in_file(given: PriceSource, case: Case) -> dict[str, Any]:
-    """Prices as a dict of their file's form."""
-    return as_prices(given, case).in_currency_per_mw()
+def in_file(zone: object, given: PriceSource, case: Case) -> dict[str, Any]:
+    """The prices of a zone as a dict of their file's form."""
+    try:
+        return as_prices(given, case).in_currency_per_mw()
+    except HullError as why:
+        text = why.line.removeprefix(f"{told('prices')}: ")
+        raise HullError(f"{told('zones')}, zone {one_line(zone)}: {text}", period=why.period) from None
 
 
 def as_zones(given: GivenZones, case: Case) -> Zones:
-    if isinstance(given, dict):
-        return zones_of(told("zones"), value_of("zones", with_price_lists(given, case)), case)
-    return read_zones(given, case) if is_name(given) else cast(Zones, object_of("zones", given))
+    """The zones, for a case; those of an object are looked at as those of a file are, since a script may have set any."""
+    if is_name(given):
+        return read_zones(given, case)
+    zones = given if isinstance(given, dict) else cast(Zones, object_of("zones", given)).as_dict()
+    return zones_of(told("zones"), value_of("zones", with_price_lists(zones, case)), case)
 
 
 def as_beside(

@@ -39,6 +39,11 @@ class Zones(FieldsAlone):
             members.append(f'"default": {json.dumps(self.default, ensure_ascii=False)}')
         return "{" + ", ".join(members) + "}\n"
 
+    def as_dict(self) -> Dict[str, Any]:
+        """The form of its file, in which the prices of a zone are objects still."""
+        default = {} if self.default is None else {"default": self.default}
+        return {"zones": self.prices, "units": self.units, **default}
+
     def zone_of(self, kind: str, name: str) -> str:
         return self.units.get(f"{kind}:{name}", self.units.get(name, self.default or ""))
 

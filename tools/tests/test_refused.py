@@ -940,8 +940,27 @@ class Members(Refusals):
     def test_zones_with_objects(self):
         dicts = {"zones": {"A": {"energy": [98], "reserve": [1]}}, "default": "A"}
         objects = {"zones": {"A": hulltools.per_mwh(98, 1)}, "default": "A"}
-        found = [hulltools.settle_zones(*USUAL, zones, hull=PROGRAM).units for zones in (dicts, objects)]
-        self.assertEqual(found[0], found[1])
+        whole = hulltools.Zones({"A": hulltools.per_mwh([98], 1)}, {"G1": "A"}, "A")
+        found = [hulltools.settle_zones(*USUAL, zones, hull=PROGRAM).units for zones in (dicts, objects, whole)]
+        self.assertEqual((found[0], found[0]), (found[1], found[2]))
+
+    def test_zones_that_a_script_has_set_are_looked_at_as_those_of_a_file(self):
+        """A misspelt unit would be settled at the default zone, and what was settled keeps its zones."""
+        prices = {"A": hulltools.per_mwh([98]), "B": hulltools.per_mwh([50])}
+        for units, default, due in (
+            ({"G 1": "B"}, "A", 'the case has no unit "G 1"'),
+            ({"G1": "C"}, "A", 'the zone of unit "G1" has no prices'),
+            ({"G1": "B"}, None, 'unit "W1" has no zone, and there is no default'),
+        ):
+            zones = hulltools.Zones(prices, units, default)
+            self.refused(f"the zones given: {due}", hulltools.settle_zones, *USUAL, zones, hull=PROGRAM)
+        zones = hulltools.Zones({"A": hulltools.per_mwh([98, 99])}, {}, "A")
+        due = "the zones given, zone A: energy has 2 prices, and the case 1 period"
+        self.refused(due, hulltools.settle_zones, *USUAL, zones, hull=PROGRAM)
+        zones = hulltools.Zones(prices, {"G1": "B"}, "A")
+        found = hulltools.settle_zones(*USUAL, zones, hull=PROGRAM)
+        zones.units["G1"] = "A"
+        self.assertEqual(found.zones.zone_of("thermal", "G1"), "B")
 
     def test_the_line_of_an_error_is_said_in_words(self):
         files = {"case": USUAL[0], "schedule": f"{EXAMPLES}/evening/schedule.json"}
