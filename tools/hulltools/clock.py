@@ -6,7 +6,7 @@ from decimal import Decimal
 from fractions import Fraction
 from typing import List, Optional
 
-from .day_lengths import IN_PARTS, changed_day, length_on_change
+from .day_lengths import changed_day, in_parts, length_on_change
 from .errors import HullError
 
 THOUSANDTHS = 1000
@@ -43,8 +43,8 @@ class Clock:
 
     def need_length(self, periods: int) -> None:
         """Refuses a start without the length of a period where so many are most likely no hours."""
-        if self.start is not None and self.hours is None and periods in IN_PARTS:
-            what = changed_day(periods) or "a day of quarter hours"
+        what = in_parts(periods)
+        if self.start is not None and self.hours is None and what:
             raise HullError(f"--start needs --hours-per-period here: {periods} periods may be {what}")
 
     def why_unknown(self, periods: int) -> str:

@@ -63,6 +63,11 @@ def changed_day(periods: int) -> Optional[str]:
     return change.in_words if change else None
 
 
+def in_parts(periods: int) -> Optional[str]:
+    """What so many periods may be, where they are most likely no hours; None elsewhere."""
+    return (changed_day(periods) or "a day of quarter hours") if periods in IN_PARTS else None
+
+
 def hint_of_length(found: int, periods: int) -> Optional[str]:
     """Which of two numbers of periods has a clock change, where they otherwise are the same stretch of time."""
     listed, due = clock_change(found), clock_change(periods)

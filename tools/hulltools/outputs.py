@@ -112,7 +112,7 @@ class Text:
         schedule: Optional[GivenSchedule] = None,
         money: Union[Money, bool] = "currency",
         start: Optional[Start] = None,
-        hours_per_period: SupportsFloat = 1,
+        hours_per_period: Optional[SupportsFloat] = None,
         *,
         currency: Optional[bool] = None,
     ) -> dict[str, DataFrame]:
@@ -129,7 +129,7 @@ def frames(
     schedule: Optional[GivenSchedule] = None,
     money: Union[Money, bool] = "currency",
     start: Optional[Start] = None,
-    hours_per_period: SupportsFloat = 1,
+    hours_per_period: Optional[SupportsFloat] = None,
     *,
     currency: Optional[bool] = None,
 ) -> dict[str, DataFrame]:
@@ -139,7 +139,7 @@ def frames(
     the column `report`; of a file this is its name without folders, unless two files have that one. Texts of one name are numbered: `hull settle`, `hull settle 2`. Numbers are floating, in
     the currency and MW; with `money="millionths"` they are whole, in millionths and kilowatts. With a start, tables
     by period are indexed by time. `currency` is the old name of `money`, for a flag. Raises `HullError` where
-    pandas isn't there, or where something given isn't such a text.
+    pandas isn't there, where something given isn't such a text, or where a start doesn't say when each period begins.
     """
     from .inputs import as_beside
     from .named_texts import is_in_currency, texts_of

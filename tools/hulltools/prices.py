@@ -126,7 +126,7 @@ class Prices(FieldsAlone, PriceSource):
         """The prices as their file has them: in the currency per MW and period, which is per MWh where a period is an hour."""
         return {"energy": in_currency_per_mw(self.energy), "reserve": in_currency_per_mw(self.reserve)}
 
-    def frame(self, start: Optional["Start"] = None, hours_per_period: SupportsFloat = 1) -> "DataFrame":
+    def frame(self, start: Optional["Start"] = None, hours_per_period: Optional[SupportsFloat] = None) -> "DataFrame":
         """A row for each period, as a data frame of pandas."""
         from .tables import Table, frames_of
 
@@ -160,7 +160,10 @@ class FlatPrices(FieldsAlone, PriceSource):
         self.over_all("a file", periods).write(name, inputs)
 
     def frame(
-        self, start: Optional["Start"] = None, hours_per_period: SupportsFloat = 1, periods: Optional[int] = None
+        self,
+        start: Optional["Start"] = None,
+        hours_per_period: Optional[SupportsFloat] = None,
+        periods: Optional[int] = None,
     ) -> "DataFrame":
         """A row for each of so many periods. Raises `HullError` where these are left out."""
         return self.over_all("a frame", periods).frame(start, hours_per_period)

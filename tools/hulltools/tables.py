@@ -9,11 +9,13 @@ import re
 from collections.abc import Iterable, Sequence
 from datetime import datetime
 from decimal import Decimal
+from fractions import Fraction
 from typing import TYPE_CHECKING, Any, Optional, SupportsFloat, Union, cast
 
 from .beside import need_beside
 from .cases import Case
 from .costs import Costs
+from .day_lengths import changed_day, in_parts, length_on_change
 from .numbers import decimal_text
 from .errors import HullError, one_line
 from .options import float_of, is_whole_number, number_option, told_value
@@ -195,14 +197,16 @@ def load_pandas() -> Any:
 
 
 def frames_of(
-    tables: dict[str, Table], start: Optional[Start] = None, hours_per_period: SupportsFloat = 1
+    tables: dict[str, Table], start: Optional[Start] = None, hours_per_period: Optional[SupportsFloat] = None
 ) -> dict[str, "DataFrame"]:
     """The tables as data frames of pandas; numbers in the currency and MW are floating there.
 
     With a start, rows of periods are indexed by time. With a length of periods other than an hour, prices per MWh stand behind the others.
     """
-    hours = number_option("hours_per_period", hours_per_period, 0, MOST_HOURS, above=True)
+    length = 1 if hours_per_period is None else hours_per_period
+    hours = number_option("hours_per_period", length, 0, MOST_HOURS, above=True)
     pandas = load_pandas()
+    begins = None if start is None else start_of(pandas, start)
     found = {}
     for name, table in tables.items():
         columns = zip(table.heads, table.units, zip(*table.rows)) if table.rows else ()
@@ -211,10 +215,22 @@ def frames_of(
         for head in table.heads if hours != 1 else ():
             if head.endswith(PER_MW):
                 frame[f"{head}h"] = frame[head] / hours
-        if start is not None and "period" in frame:
-            frame.index = times_of(pandas, start_of(pandas, start), frame["period"], hours)
+        if begins is not None and "period" in frame:
+            need_sure_times(begins, frame["period"].tolist(), None if hours_per_period is None else hours)
+            frame.index = times_of(pandas, begins, frame["period"], hours)
         found[name] = frame
     return found
+
+
+def need_sure_times(start: Any, periods: list[int], hours: Optional[float]) -> None:
+    """Refuses a start that doesn't say when each period begins: without their length, or, where clocks change, without its offset from UTC."""
+    for last in sorted({one for one, other in zip(periods, [*periods[1:], 0]) if other <= one}):
+        what = in_parts(last)
+        if hours is None and what:
+            raise HullError(f"start needs hours_per_period here: {last} periods may be {what}")
+        if start.tzinfo is None and length_on_change(last) == Fraction(hours or 1):
+            due = f"its offset from UTC is due, as {start.isoformat(timespec='minutes')}+02:00"
+            raise HullError(f"start is {told_value(start)}: {last} periods are {changed_day(last)}: {due}")
 
 
 def times_of(pandas: Any, start: Any, periods: Any, hours: float) -> Any:
@@ -242,8 +258,9 @@ def time_of(start: Any) -> Any:
 
 
 def is_number_text(start: object) -> bool:
-    """Whether what should be a time is a number, which pandas would take for nanoseconds or for a year."""
-    return not isinstance(start, datetime) and float_of(start) is not None
+    """Whether what should be a time is a number, which pandas would take for nanoseconds or for a year. A time of NumPy is none, though it has one."""
+    is_time = isinstance(start, datetime) or getattr(getattr(start, "dtype", None), "kind", "") == "M"
+    return not is_time and float_of(start) is not None
 
 
 def column_of(pandas: Any, head: str, unit: str, cells: Sequence[Cell]) -> Any:

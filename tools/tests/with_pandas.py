@@ -7,6 +7,8 @@ import re
 import tempfile
 import unittest
 import warnings
+import zoneinfo
+from datetime import datetime
 from unittest import mock
 
 import numpy
@@ -127,6 +129,34 @@ class Columns(unittest.TestCase):
             self.assertEqual(time.tz_convert("UTC").isoformat(), "2026-06-30T22:00:00+00:00")
         with self.assertRaisesRegex(hulltools.HullError, "the periods end behind the last time that pandas has$"):
             hulltools.per_mwh([30] * 9).frame("2262-04-11T23:00")
+
+    def test_times_where_clocks_change(self):
+        """On a day of 25 hours a start without an offset would be an hour off behind the change."""
+        zone, day = zoneinfo.ZoneInfo("Europe/Berlin"), "2026-10-25T00:00"
+        for periods, hours, what in (
+            (25, None, "a day of 25 hours, on which clocks go back"),
+            (23, 1, "a day of 23 hours, on which clocks go forward"),
+            (100, 0.25, "a day of 25 hours in quarter hours, on which clocks go back"),
+        ):
+            prices = hulltools.per_mwh(30).over(periods)
+            due = f"start is 2026-10-25 00:00:00: {periods} periods are {what}: its offset from UTC is due, as {day}+02:00"
+            for start in (day, datetime(2026, 10, 25), numpy.datetime64(day, "ns")):
+                with self.assertRaises(hulltools.HullError) as found:
+                    prices.frame(start, hours)
+                self.assertEqual(found.exception.sentence, due)
+            self.assertEqual(len(prices.frame(f"{day}+02:00", hours)), periods)
+        times = hulltools.per_mwh(30).over(25).frame(datetime(2026, 10, 25, tzinfo=zone)).index
+        self.assertEqual((str(times.tz), times.hour[:5].tolist()), ("Europe/Berlin", [0, 1, 2, 2, 3]))
+
+    def test_periods_that_may_be_quarter_hours_have_a_length(self):
+        prices = hulltools.per_mwh(30).over(96)
+        with self.assertRaises(hulltools.HullError) as found:
+            prices.frame("2026-07-01T00:00")
+        due = "start needs hours_per_period here: 96 periods may be a day of quarter hours"
+        self.assertEqual(found.exception.sentence, due)
+        for hours, last in ((1, "2026-07-04 23:00:00"), (0.25, "2026-07-01 23:45:00")):
+            self.assertEqual(str(prices.frame("2026-07-01T00:00", hours).index[-1]), last)
+        self.assertEqual(len(prices.frame()), 96)
 
     def test_prices_of_one_number_have_a_frame_of_given_periods(self):
         frame = hulltools.per_mwh(30, 2).frame(periods=3)
