@@ -16,7 +16,7 @@ from argparse import Namespace
 from typing import TYPE_CHECKING, Dict, Iterator, List, Mapping, Optional, Sequence
 
 from .cases import TIME, Case
-from .errors import HullError, Name, Tell
+from .errors import HullError, Name, Tell, told_with
 from .inputs import (
     Given,
     GivenCase,
@@ -291,10 +291,10 @@ class Room:
         """The name of a file: the one that is given, or one in the folder that holds what is given."""
         if isinstance(given, (str, os.PathLike)):
             return os.fspath(given)
-        place = os.path.join(self.folder, f"{name or what}.json")
+        place, content = os.path.join(self.folder, f"{name or what}.json"), content_of(what, given)
         self.shown[place] = told_as or told(what)
-        with open(place, "w", encoding="utf-8") as file:
-            file.write(content_of(what, given))
+        with told_with(f"{self.shown[place]}, in {place}"), open(place, "w", encoding="utf-8") as file:
+            file.write(content)
         return place
 
     @contextlib.contextmanager
@@ -351,8 +351,9 @@ def study(
     from .commands.study import inputs_of, study_of, write_results
     from .study_folder import StudyFolder
 
-    with tempfile.TemporaryDirectory(prefix="hull-study-") as folder_of_files:
-        room = Room(folder_of_files)
+    with contextlib.ExitStack() as until_done:
+        with told_with("a temporary folder"):
+            room = Room(until_done.enter_context(tempfile.TemporaryDirectory(prefix="hull-study-")))
         to, read, words = os.fspath(folder) if folder else room.folder, as_case(case), words_of(options)
         if schedule is not None:
             words.append(f"--schedule={room.name_of('schedule', schedule)}")

@@ -763,6 +763,15 @@ class Calls(unittest.TestCase):
         self.assertTrue([line for line in said if line.startswith("LMP: gap ")], said)
         self.assertTrue(all(isinstance(line, str) and "--" not in line for line in said), said)
 
+    def test_a_study_without_room_for_temporary_files(self):
+        full = OSError(28, "No space left on device")
+        for name, why, due in (
+            ("open", full, "^the schedule given, in .*schedule.json: No space left on device$"),
+            ("tempfile.TemporaryDirectory", full, "^a temporary folder: No space left on device$"),
+        ):
+            with mock.patch(f"hulltools.calls.{name}", side_effect=why, create=True):
+                self.assertRaisesRegex(hulltools.HullError, due, hulltools.study, self.case, self.schedule, hull=PROGRAM)
+
     def test_studies_of_several_threads_leave_standard_output_as_it_is(self):
         """Their words are read at one time, and nothing that another thread prints meanwhile may be lost."""
         printed, begun = io.StringIO(), threading.Barrier(2)
