@@ -13,7 +13,8 @@ import os
 import re
 import tempfile
 from argparse import Namespace
-from typing import TYPE_CHECKING, Dict, Iterator, List, Mapping, Optional, Sequence
+from collections.abc import Iterable
+from typing import TYPE_CHECKING, Dict, Iterator, List, Mapping, Optional, Sequence, cast
 
 from .cases import TIME, Case
 from .errors import HullError, Name, Tell, told_with
@@ -35,7 +36,7 @@ from .inputs import (
 from .linear import need_scipy
 from .numbers import millionths
 from .progress import told_to
-from .options import hint_of, number_option, seconds_option, told_value, whole_option
+from .options import hint_of, is_flag, is_list, number_option, seconds_option, told_value, whole_option
 from .outputs import Convex, Settlement
 from .prices import Prices
 from .program import Hull
@@ -55,7 +56,6 @@ if TYPE_CHECKING:
 
 
 MOST_NODES = 2**31 - 1
-LISTS = (list, tuple, set, frozenset)
 WORD = re.compile(r"(?<![^\s(])--([a-z][a-z-]*[a-z])\b")  # an option of a tool
 OWN_OPTIONS = ("schedule", "best_schedule", "prices", "zones", "hull", "help")  # of study.py, which are parameters here
 
@@ -233,11 +233,16 @@ def told_of_a_call() -> Iterator[None]:
         raise
 
 
+def names_in(value: object) -> Optional[List[str]]:
+    """The names of a list, an array, a series or a set; None where it is no such."""
+    return list(map(str, cast("Iterable[object]", value))) if is_list(value) and not isinstance(value, Mapping) else None
+
+
 def word_of(key: str, value: object) -> str:
     """The value of an option as a word; a list of names has commas between them, and is a row of a csv where these are units."""
-    if not isinstance(value, LISTS):
+    names = names_in(value)
+    if names is None:
         return str(value)
-    names = [str(name) for name in value]
     if key == "fast_start":
         row = io.StringIO()
         csv.writer(row).writerow(names)
@@ -251,8 +256,10 @@ def word_of(key: str, value: object) -> str:
 def words_of(options: Dict[str, object]) -> List[str]:
     """Options of study.py as its words: True is a word alone; None, False and empty lists are left out, but for a list of no fast-start unit."""
     found = []
-    for key, value in options.items():
-        is_empty = isinstance(value, LISTS) and not value and key != "fast_start"
+    for key, given in options.items():
+        names = names_in(given)
+        value = names if names is not None else bool(given) if is_flag(given) else given
+        is_empty = value == [] and key != "fast_start"
         if value is not None and value is not False and not is_empty:
             found.append(f"--{key.replace('_', '-')}" + ("" if value is True else f"={word_of(key, value)}"))
     return found

@@ -61,6 +61,10 @@ def default_program() -> str:
     return found
 
 
+def say_nothing(text: object) -> None:
+    """Hears what is told, and does nothing. (It has a name, so that a `Hull` can be sent to another process.)"""
+
+
 class Hull:
     """The program. Each call gives what it prints, read; HullError where it refuses.
 
@@ -76,7 +80,7 @@ class Hull:
         self.seconds = seconds_option(seconds)
         self.program = os.fspath(program or default_program())
         self.commands: dict[str, bool] = {}
-        self.tell: Tell = tell or (lambda text: None)
+        self.tell: Tell = tell or say_nothing
         self.told = False
         self.last_text = b""
 

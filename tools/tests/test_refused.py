@@ -496,6 +496,10 @@ step.mark_audit(SimpleNamespace(name="d", settings=SimpleNamespace(audits="marks
             place, due = os.path.realpath(f"{room}/{name}"), hashlib.sha256(name.encode()).hexdigest()
             self.assertIn(f"sum of {place}: {due}", lines)
 
+    def test_it_can_be_sent_to_another_process(self):
+        program = pickle.loads(pickle.dumps(hulltools.Hull(PROGRAM, seconds=60)))
+        self.assertEqual((program.check(*USUAL), program.seconds), (hulltools.check(*USUAL, PROGRAM), 60))
+
     def test_convex_has_the_name_of_the_function_too(self):
         program = hulltools.Hull(PROGRAM)
         self.assertEqual(program.convex_prices(*USUAL, rounds=5), program.convex(*USUAL, rounds=5))
@@ -516,6 +520,8 @@ class Words(Refusals):
         options = {"skip": ["elmp", "relaxation"], "fast_start": ("G1",), "search": True, "title": None, "zones": []}
         self.assertEqual(calls.words_of(options), ["--skip=elmp,relaxation", "--fast-start=G1", "--search"])
         self.assertEqual(calls.words_of({"fast_start": [], "skip": []}), ["--fast-start="])
+        found = calls.words_of({"skip": iter(["elmp", "lmp"]), "fast_start": {"G1": 1}.keys()})
+        self.assertEqual(found, ["--skip=elmp,lmp", "--fast-start=G1"])
         with self.assertRaisesRegex(HullError, "^the prices a=b given: a name of a list has no `=`$"):
             calls.named_prices({"a=b": hulltools.per_mwh(30)}, usual()[0])
         names = calls.words_of({"fast_start": ["A", "B, old", '"C"']})

@@ -17,6 +17,7 @@ import pandas
 from tool import EXAMPLES, PROGRAM, ROOT
 
 import hulltools
+import hulltools.calls
 import hulltools.inputs
 from hulltools.external_schedules import as_followed
 
@@ -235,6 +236,12 @@ class Set(unittest.TestCase):
         one = {"zones": {"all": prices}, "default": "all"}
         zonal = [hulltools.settle_zones(*both, one, hull=PROGRAM) for both in (given, plain)]
         self.assertTrue(zonal[0].frame().equals(zonal[1].frame()))
+
+    def test_options_of_a_study_may_be_arrays_and_flags_of_numpy(self):
+        options = {"skip": numpy.array(["elmp", "lmp"]), "fast_start": pandas.Index(["G1"])}
+        flags = {"search": numpy.bool_(True), "no_schedule": numpy.bool_(False)}
+        found = hulltools.calls.words_of({**options, **flags})
+        self.assertEqual(found, ["--skip=elmp,lmp", "--fast-start=G1", "--search"])
 
     def test_cases_and_prices_with_other_numbers_are_not_equal(self):
         case = copy.deepcopy(self.case)
