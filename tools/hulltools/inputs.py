@@ -111,14 +111,14 @@ def warn_caller(text: str) -> None:
 
 
 def numbers_of(value: Any, path: tuple[Any, ...] = ()) -> Iterator[tuple[tuple[Any, ...], Any]]:
-    """The floating and decimal numbers of a value that goes into a file, each with its path; items are counted from 1."""
+    """The floating and decimal numbers of a value that goes into a file, and NA of pandas, each with its path; items are counted from 1."""
     if isinstance(value, Mapping):
         for key, member in value.items():
             yield from numbers_of(member, (*path, key))
     elif isinstance(value, (list, tuple)):
         for place, member in enumerate(value, 1):
             yield from numbers_of(member, (*path, place))
-    elif isinstance(value, (float, Decimal)):
+    elif isinstance(value, (float, Decimal)) or type(value).__name__ == "NAType":
         yield path, value
     elif callable(getattr(value, "tolist", None)):
         yield from numbers_of(value.tolist(), path)

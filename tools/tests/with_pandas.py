@@ -237,6 +237,22 @@ class Set(unittest.TestCase):
         zonal = [hulltools.settle_zones(*both, one, hull=PROGRAM) for both in (given, plain)]
         self.assertTrue(zonal[0].frame().equals(zonal[1].frame()))
 
+    def test_a_missing_number_of_pandas_is_told_as_nan_is(self):
+        """NA of a column of whole numbers, with its unit and its period."""
+        missing = pandas.Series([65, pandas.NA], dtype="Int64")
+        for given, where, unit in (
+            ({"demand": missing}, "demand", None),
+            (
+                {"renewable_generators": {"W1": {"power_output_maximum": missing}}},
+                "renewable_generators, W1, power_output_maximum",
+                "W1",
+            ),
+        ):
+            with self.assertRaises(hulltools.HullError) as found:
+                hulltools.check(given, {}, hull=PROGRAM)
+            due = f"the case given: {where}, item 2 is <NA>: a number is due"
+            self.assertEqual((found.exception.sentence, found.exception.unit, found.exception.period), (due, unit, 2))
+
     def test_options_of_a_study_may_be_arrays_and_flags_of_numpy(self):
         options = {"skip": numpy.array(["elmp", "lmp"]), "fast_start": pandas.Index(["G1"])}
         flags = {"search": numpy.bool_(True), "no_schedule": numpy.bool_(False)}
