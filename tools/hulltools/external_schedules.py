@@ -1,13 +1,14 @@
 """Schedules in megawatts from elsewhere: what each unit is to do, by its name."""
 from __future__ import annotations
 
+import contextlib
 import difflib
 import math
 import os
 import re
 from dataclasses import dataclass, field
 from datetime import datetime, timedelta
-from typing import Any, Dict, Iterable, List, Mapping, Optional, Sequence, Set, Tuple
+from typing import Any, Dict, Iterable, Iterator, List, Mapping, Optional, Sequence, Set, Tuple
 
 from .cases import Bid, Case, Unit
 
@@ -73,10 +74,10 @@ PLAIN_NUMBER, TIME_OF_DAY = re.compile("[0-9]+"), re.compile("[0-9]{1,2}:[0-9]{2
 TWELVE_HOURS = re.compile(r"(?<![a-z])[ap]\.?\s?m\b|[0-9]\s?[ap]\b", re.IGNORECASE)
 
 
-def number(value: Any, name: str, where: str) -> float:
+def number(value: Any, name: str, where: str, period: int) -> float:
     if isinstance(value, bool) or is_number(value) and -MOST_MEGAWATTS <= value <= MOST_MEGAWATTS:
         return float(value)
-    raise HullError(f"{name}: {one_line(where)}: a number of at most {MOST_MEGAWATTS:,} is due")
+    raise HullError(f"{name}: {one_line(where)}: a number of at most {MOST_MEGAWATTS:,} is due", period=period)
 
 
 def object_of(value: object, name: str, what: str) -> Dict[str, Any]:
@@ -142,7 +143,7 @@ def numbers(value: Any, periods: int, name: str, where: str) -> List[float]:
         value = [value[key] for key in in_order_of_time(list(value), f"{name}: {one_line(where)}")]
     if not isinstance(value, list) or len(value) != periods:
         raise HullError(f"{name}: {one_line(where)}: a list of {periods} numbers is due")
-    return [number(it, name, where) for it in value]
+    return [number(it, name, where, t) for t, it in enumerate(value, 1)]
 
 
 class Keyed:
@@ -243,6 +244,16 @@ def followed_dict(given: Dict[str, Any], name: str, periods: int) -> Followed:
     return followed_value(value, name, periods)
 
 
+@contextlib.contextmanager
+def told_of_unit(unit: str) -> Iterator[None]:
+    """Gives what is refused the unit that it is of."""
+    try:
+        yield
+    except HullError as why:
+        why.unit = unit
+        raise
+
+
 def followed_value(value: Any, name: str, periods: int) -> Followed:
     """What a JSON value says."""
     if not isinstance(value, dict):
@@ -261,7 +272,8 @@ def followed_value(value: Any, name: str, periods: int) -> Followed:
             key = next((it for it in names if isinstance(row, dict) and it in row), None)
             if key is not None and (keys is PLAIN or row[key] is not None):
                 lists[key] = row[key]
-                getattr(found, what)[unit] = numbers(row[key], periods, name, f"{unit}, {key}")
+                with told_of_unit(unit):
+                    getattr(found, what)[unit] = numbers(row[key], periods, name, f"{unit}, {key}")
         keyed.refuse_others(unit, lists)
     return found
 
@@ -356,9 +368,9 @@ def period_of(cell: Any) -> int:
 
 def add_row(cells: Cells, row: Mapping[str, Any], where: str, periods: int) -> Tuple[str, int]:
     """Adds the numbers of a row, whose unit and period these are."""
-    column = "period"
+    column, unit, period = "period", str(row["unit"]), 0
     try:
-        unit, period = str(row["unit"]), period_of(row["period"])
+        period = period_of(row["period"])
         for column in cells:
             given: Any = row.get(column)
             if given not in (None, ""):
@@ -368,9 +380,10 @@ def add_row(cells: Cells, row: Mapping[str, Any], where: str, periods: int) -> T
                 cells[column].setdefault(unit, {})[period] = value
     except (ValueError, TypeError, OverflowError):
         bad = f"`{column}` is {told_value(row.get(column))}"
-        raise HullError(f"{where}: no row of unit, period from 1 to {periods}, and numbers: {bad}") from None
+        why = f"{where}: no row of unit, period from 1 to {periods}, and numbers: {bad}"
+        raise HullError(why, unit=unit, period=period or None) from None
     if not 1 <= period <= periods:
-        raise HullError(f"{where}: period {period} isn't one of 1 to {periods}")
+        raise HullError(f"{where}: period {period} isn't one of 1 to {periods}", unit=unit)
     return unit, period
 
 
@@ -530,5 +543,5 @@ def with_flags(found: Followed, case: Case, name: str, hint: str = "") -> Follow
         if unit.name not in found.names:
             raise HullError(f'{name}: it has no rows of thermal unit "{one_line(unit.name)}"', unit=unit.name)
         if unit.name not in found.on:
-            raise HullError(f'{name}: it has no on flags of thermal unit "{one_line(unit.name)}"')
+            raise HullError(f'{name}: it has no on flags of thermal unit "{one_line(unit.name)}"', unit=unit.name)
     return found

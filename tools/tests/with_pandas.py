@@ -253,6 +253,19 @@ class Set(unittest.TestCase):
             due = f"the case given: {where}, item 2 is <NA>: a number is due"
             self.assertEqual((found.exception.sentence, found.exception.unit, found.exception.period), (due, unit, 2))
 
+    def test_what_is_refused_of_powers_has_its_unit_and_its_period(self):
+        frame = self.schedule.frame()
+        for given, due, period in (
+            (frame.assign(power="1,5"), "`power` is 1,5$", 1),
+            (frame.assign(period=pandas.Timestamp("2026-07-01")), "`period` is 2026-07-01 00:00:00$", None),
+            (frame.assign(period=frame["period"] - 1), "period 0 isn't one of 1 to 6$", None),
+            ({"thermal": {"G1": {"power": [1, None] * 3}}}, "G1, power: a number of at most 1,000,000 is due$", 2),
+            ({"thermal": {"G1": {"reserve": [0] * 6}}}, 'it has no on flags of thermal unit "G1"$', None),
+        ):
+            with self.assertRaisesRegex(hulltools.HullError, f"^the powers given.*{due}") as found:
+                as_followed(given, self.case)
+            self.assertEqual((found.exception.unit, found.exception.period), ("G1", period))
+
     def test_options_of_a_study_may_be_arrays_and_flags_of_numpy(self):
         options = {"skip": numpy.array(["elmp", "lmp"]), "fast_start": pandas.Index(["G1"])}
         flags = {"search": numpy.bool_(True), "no_schedule": numpy.bool_(False)}
