@@ -27,6 +27,7 @@ KILOWATTS_FROM = 10  # times the most that a unit gives: a greater power isn't i
 FLAG_OFF = 0.01  # how far from 0 or 1 a solver may leave an on flag
 COLUMNS = ("unit", "period", "on", "power", "reserve")  # of a table
 NEAR = 0.75  # how like another name is that is most likely meant
+OF_A_MERGE = re.compile("_[xy]\\Z")  # what pandas puts behind a column that both frames have
 JULIA: Dict[str, Tuple[str, ...]] = {
     "on": ("Is on",),
     "power": ("Production (MW)", "Thermal production (MW)", "Profiled production (MW)"),
@@ -298,7 +299,8 @@ def refuse_misspelt(found: Iterable[Any], name: str, known: Sequence[str], what:
     names = list(found)
     absent = [it for it in known if it not in names]
     for given in names:
-        near = difflib.get_close_matches(str(given).casefold(), absent, 1, NEAR) if given not in known else []
+        plain = OF_A_MERGE.sub("", str(given).casefold())
+        near = difflib.get_close_matches(plain, absent, 1, NEAR) if given not in known else []
         if near:
             raise HullError(f"{name}: `{one_line(given)[:60]}` is no {what} of it: is `{near[0]}` meant?")
 

@@ -266,6 +266,17 @@ class Set(unittest.TestCase):
                 as_followed(given, self.case)
             self.assertEqual((found.exception.unit, found.exception.period), ("G1", period))
 
+    def test_a_column_that_a_merge_has_renamed_is_not_skipped(self):
+        """Without its flags a unit would be off where its power is 0."""
+        frame = self.schedule.frame()
+        for name in ("on_x", "on_y", "power_x", "reserve_y"):
+            changed = frame.rename(columns={name[:-2]: name})
+            due = f"^the powers given: `{name}` is no column of it: is `{name[:-2]}` meant\\?$"
+            with self.assertRaisesRegex(hulltools.HullError, due):
+                as_followed(changed, self.case)
+        both = frame.merge(frame[["unit", "period", "on"]], on=["unit", "period"], suffixes=("", "_y"))
+        self.assertEqual(as_followed(both, self.case), as_followed(frame, self.case))
+
     def test_options_of_a_study_may_be_arrays_and_flags_of_numpy(self):
         options = {"skip": numpy.array(["elmp", "lmp"]), "fast_start": pandas.Index(["G1"])}
         flags = {"search": numpy.bool_(True), "no_schedule": numpy.bool_(False)}
