@@ -1,13 +1,12 @@
 """A mixture: weighted schedules of each thermal unit, and the bound that they prove."""
 from __future__ import annotations
 
-import json
 from collections.abc import Iterable, Sequence
 from dataclasses import dataclass
 from typing import TYPE_CHECKING, Any
 
 from .cases import Case
-from .json_texts import is_number, read_json, refused_as
+from .json_texts import is_number, json_text, read_json, refused_as
 from .numbers import is_whole, Millionths, PRICE_LIMIT
 from .options import FieldsAlone
 from .schedules import Fault, Plan, teller_of, thermal_plan
@@ -45,7 +44,7 @@ class Mixture(FieldsAlone):
     def text(self) -> str:
         """The file that `hull certify` reads."""
         thermal = {name: [entry.as_json() for entry in entries] for name, entries in self.thermal.items()}
-        return json.dumps({"weight": self.weight, "thermal": thermal}, ensure_ascii=False) + "\n"
+        return json_text({"weight": self.weight, "thermal": thermal}) + "\n"
 
     def write(self, name: Name, inputs: Sequence[str] = ()) -> None:
         """Writes the file that `hull certify` reads."""

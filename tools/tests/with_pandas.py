@@ -237,6 +237,16 @@ class Set(unittest.TestCase):
         zonal = [hulltools.settle_zones(*both, one, hull=PROGRAM) for both in (given, plain)]
         self.assertTrue(zonal[0].frame().equals(zonal[1].frame()))
 
+    def test_plans_of_a_mixture_may_be_arrays(self):
+        found = hulltools.convex_prices(self.case, self.schedule, hull=PROGRAM)
+        due = hulltools.certify(self.case, self.schedule, found, found, hull=PROGRAM)
+        changed = copy.deepcopy(found.mixture)
+        for entry in (entry for entries in changed.thermal.values() for entry in entries):
+            entry.weight, entry.plan.on = numpy.int64(entry.weight), pandas.Series(entry.plan.on)
+            entry.plan.power = numpy.array(entry.plan.power)
+        self.assertEqual(hulltools.certify(self.case, self.schedule, found, changed, hull=PROGRAM), due)
+        self.assertEqual((changed.text(), changed), (found.mixture.text(), found.mixture))
+
     def test_a_missing_number_of_pandas_is_told_as_nan_is(self):
         """NA of a column of whole numbers, with its unit and its period."""
         missing = pandas.Series([65, pandas.NA], dtype="Int64")
