@@ -237,11 +237,16 @@ def with_price_lists(given: dict[str, Any], case: Case) -> dict[str, Any]:
     zones = given.get("zones")
     if not isinstance(zones, dict):
         return given
-    lists = {zone: one if not isinstance(one, PriceSource) else in_file(zone, one, case) for zone, one in zones.items()}
+    lists = {zone: in_file(zone, one, case) if has_prices(one) else one for zone, one in zones.items()}
     return {**given, "zones": lists}
 
 
-def in_file(zone: object, given: PriceSource, case: Case) -> dict[str, Any]:
+def has_prices(given: object) -> bool:
+    """Whether it is an object that is taken for prices."""
+    return isinstance(given, PriceSource) or isinstance(getattr(given, "prices", None), Prices)
+
+
+def in_file(zone: object, given: GivenPrices, case: Case) -> dict[str, Any]:
     """The prices of a zone as a dict of their file's form."""
     try:
         return as_prices(given, case).in_currency_per_mw()

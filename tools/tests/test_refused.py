@@ -17,6 +17,8 @@ from tool import EXAMPLES, PROGRAM, ROOT, python_with, run
 import hulltools
 import hulltools.inputs
 from hulltools import HullError, calls
+from hulltools.price_lists import LMP
+from hulltools.studies import Settled
 
 USUAL = f"{EXAMPLES}/usual/case.json", f"{EXAMPLES}/usual/schedule.json"
 WINDOWS = f"{EXAMPLES}/windows/case.json", f"{EXAMPLES}/windows/schedule.json"
@@ -947,8 +949,10 @@ class Members(Refusals):
         dicts = {"zones": {"A": {"energy": [98], "reserve": [1]}}, "default": "A"}
         objects = {"zones": {"A": hulltools.per_mwh(98, 1)}, "default": "A"}
         whole = hulltools.Zones({"A": hulltools.per_mwh([98], 1)}, {"G1": "A"}, "A")
-        found = [hulltools.settle_zones(*USUAL, zones, hull=PROGRAM).units for zones in (dicts, objects, whole)]
-        self.assertEqual((found[0], found[0]), (found[1], found[2]))
+        text = hulltools.settle(*USUAL, hulltools.per_mwh(98, 1), hull=PROGRAM)
+        texts = [{"zones": {"A": it}, "default": "A"} for it in (text, Settled(LMP, text, []))]
+        found = [hulltools.settle_zones(*USUAL, zones, hull=PROGRAM).units for zones in (dicts, objects, whole, *texts)]
+        self.assertEqual(found, [found[0]] * 5)
 
     def test_zones_that_a_script_has_set_are_looked_at_as_those_of_a_file(self):
         """A misspelt unit would be settled at the default zone, and what was settled keeps its zones."""
