@@ -31,7 +31,7 @@ from .inputs import (
     told,
 )
 from .numbers import Millionths, millionths
-from .options import number_option, seconds_option, whole_option
+from .options import number_option, seconds_option, told_value, whole_option
 from .outputs import RADIUS, ROUNDS, WITHIN, Certificate, Convex, Report, Settlement, parse_output, read_priced
 from .prices import FlatPrices, Prices, is_text_of_hull, refusal_of_reserve
 from .progress import step
@@ -77,6 +77,8 @@ class Hull:
     def __init__(self, program: Optional[Name] = None, tell: Optional[Tell] = None, seconds: Optional[float] = None):
         if program is not None and not is_name(program):
             raise HullError(f"`hull` is the place of the program, and no `{type(program).__name__}` can be that")
+        if tell is not None and not callable(tell):
+            raise HullError(f"tell is {told_value(tell)}: a function that gets each line is due, as print")
         self.seconds = seconds_option(seconds)
         self.program = os.fspath(program or default_program())
         self.commands: dict[str, bool] = {}

@@ -443,6 +443,10 @@ class Options(Refusals):
         self.assertEqual((str(found.exception), found.exception.line), (due, "Posted: No such file or directory"))
         self.assertEqual(hulltools.Hull(PROGRAM).settle(*USUAL, hulltools.per_mwh(98), name="Posted").name, "Posted")
 
+    def test_what_cannot_be_told_anything_is_refused_before_the_work(self):
+        due = "tell is True: a function that gets each line is due, as print"
+        self.refused(due, hulltools.Hull, PROGRAM, tell=True)
+
 
 class OfAProgram(unittest.TestCase):
     """A `Hull` takes what the functions take, and words of the program besides."""
