@@ -319,6 +319,16 @@ class Room:
         return text
 
 
+def folder_given(folder: Name) -> str:
+    """The name of the folder. One in a new folder `~` of this one is hardly meant, since it is the home in a shell alone."""
+    if not is_name(folder):
+        raise HullError(f"folder is {told_value(folder)}: a folder's name is due")
+    name = os.fspath(folder)
+    if name.split(os.sep)[0] == "~":
+        raise HullError(f"folder is {told_value(name)}: `~` is your home in a shell alone, and os.path.expanduser names it here")
+    return name
+
+
 def named_prices(given: Optional[Mapping[str, GivenPrices]], case: Case) -> Dict[str, Prices]:
     """Price lists by name, for a case; what is none is told with its name."""
     if given is not None and not isinstance(given, Mapping):
@@ -361,7 +371,8 @@ def study(
     with contextlib.ExitStack() as until_done:
         with told_with("a temporary folder"):
             room = Room(until_done.enter_context(tempfile.TemporaryDirectory(prefix="hull-study-")))
-        to, read, words = os.fspath(folder) if folder else room.folder, as_case(case), words_of(options)
+        to = room.folder if folder is None else folder_given(folder)
+        read, words = as_case(case), words_of(options)
         if schedule is not None:
             words.append(f"--schedule={room.name_of('schedule', schedule)}")
         if best_schedule is not None:
@@ -379,7 +390,7 @@ def study(
         program = Hull(hull, tell, asked.seconds)
         with told_to(tell), told_of_a_call(), room.told(), StudyFolder(to, inputs_of(asked)) as place_of:
             found = study_of(asked, words, program, place_of.room, said, place_of.refuse)
-            if folder:
+            if folder is not None:
                 with place_of.keeping():
                     write_results(found, place_of.room)
                 place_of.place(found.unfinished)

@@ -10,6 +10,7 @@ import html
 import io
 import json
 import os
+import pathlib
 import random
 import re
 import shutil
@@ -762,6 +763,18 @@ class Calls(unittest.TestCase):
         hulltools.study(self.case, made, hull=PROGRAM, tell=said.append, skip=["elmp"])
         self.assertTrue([line for line in said if line.startswith("LMP: gap ")], said)
         self.assertTrue(all(isinstance(line, str) and "--" not in line for line in said), said)
+
+    def test_a_folder_that_is_hardly_meant_is_refused(self):
+        home = "`~` is your home in a shell alone, and os.path.expanduser names it here"
+        for folder, due in (
+            ("~/study", f"folder is ~/study: {home}"),
+            (pathlib.Path("~"), f"folder is ~: {home}"),
+            (b"study", "folder is b'study': a folder's name is due"),
+            ("", "a study needs a folder's name: write . for this one"),
+        ):
+            with self.assertRaises(hulltools.HullError) as found:
+                hulltools.study(self.case, self.schedule, folder, hull=PROGRAM, no_schedule=True)
+            self.assertEqual(found.exception.sentence, due)
 
     def test_a_study_without_room_for_temporary_files(self):
         full = OSError(28, "No space left on device")
