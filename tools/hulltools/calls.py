@@ -235,7 +235,9 @@ def told_of_a_call() -> Iterator[None]:
 
 def names_in(value: object) -> Optional[List[str]]:
     """The names of a list, an array, a series or a set; None where it is no such."""
-    return list(map(str, cast("Iterable[object]", value))) if is_list(value) and not isinstance(value, Mapping) else None
+    if not is_list(value) or isinstance(value, Mapping):
+        return None
+    return [str(name) for name in cast("Iterable[object]", value)]
 
 
 def word_of(key: str, value: object) -> str:
@@ -325,7 +327,8 @@ def folder_given(folder: Name) -> str:
         raise HullError(f"folder is {told_value(folder)}: a folder's name is due")
     name = os.fspath(folder)
     if name.split(os.sep)[0] == "~":
-        raise HullError(f"folder is {told_value(name)}: `~` is your home in a shell alone, and os.path.expanduser names it here")
+        home = "`~` is your home in a shell alone, and os.path.expanduser names it here"
+        raise HullError(f"folder is {told_value(name)}: {home}")
     return name
 
 

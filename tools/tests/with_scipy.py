@@ -783,7 +783,8 @@ class Calls(unittest.TestCase):
             ("tempfile.TemporaryDirectory", full, "^a temporary folder: No space left on device$"),
         ):
             with mock.patch(f"hulltools.calls.{name}", side_effect=why, create=True):
-                self.assertRaisesRegex(hulltools.HullError, due, hulltools.study, self.case, self.schedule, hull=PROGRAM)
+                with self.assertRaisesRegex(hulltools.HullError, due):
+                    hulltools.study(self.case, self.schedule, hull=PROGRAM)
 
     def test_studies_of_several_threads_leave_standard_output_as_it_is(self):
         """Their words are read at one time, and nothing that another thread prints meanwhile may be lost."""
