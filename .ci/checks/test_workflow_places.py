@@ -10,6 +10,7 @@ import sys
 import tempfile
 import unittest
 from datetime import date
+from types import SimpleNamespace
 from typing import Any, Dict, List, Tuple
 
 from built import ROOT
@@ -332,6 +333,23 @@ class Words(Workflow):
         is_right, said = self.run_all("-n", "--config", "only=['2026.10']", "audit=false")
         self.assertTrue(is_right, said)
         self.assertEqual(steps_in(said), {"report": 1})
+
+
+class Jobs(unittest.TestCase):
+    def test_a_job_has_the_time_that_its_words_let_a_solver_work(self) -> None:
+        days, runs = script("days"), script("runs")
+        hour = {"schedule_words": "--gap 0.005 --seconds 3600", "elmp_words": "--sec=1"}
+        cases: Tuple[Tuple[Dict[str, str], str, int], ...] = (
+            (hour, "schedule", 15 + 60),
+            (hour, "elmp", 15 + 1),
+            (hour, "lmp", 15),
+            ({"schedule_words": "--gap 0.005"}, "schedule", 15 + 30),
+            ({"schedule_words": "--seconds 1e99"}, "schedule", 15 + 30),
+        )
+        for config, name, due in cases:
+            found = runs.minutes(days.settings_from(config), 15, 30, "schedule")
+            one = SimpleNamespace(day="x") if name == "schedule" else SimpleNamespace(day="x", list=name)
+            self.assertEqual((found(one, 1), found(one, 2)), (due, due + 15), (config, name))
 
 
 class Large(unittest.TestCase):

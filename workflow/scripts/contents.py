@@ -154,17 +154,17 @@ def write_record(name: str, record: Mapping[str, Any]) -> None:
     write_whole(name, (json.dumps(record, indent=1) + "\n").encode())
 
 
-def followed_names(words: List[str]) -> Iterator[str]:
-    """The files that words have a schedule follow: `--follow F`, `--follow=F`, or with the option cut short."""
+def values_of(words: List[str], name: str) -> Iterator[str]:
+    """What words give for an option of a tool: `--follow F`, `--follow=F`, or with the option cut short."""
     for word, after in zip(words, [*words[1:], ""]):
         option, mark, value = word.partition("=")
-        if len(option) > 2 and "--follow".startswith(option):
+        if len(option) > 2 and name.startswith(option):
             yield value if mark else after
 
 
 def named_sums(day: Day, step: str) -> Dict[str, Optional[str]]:
     """Sums of the files that the step's words have it read; of a folder a sum of all in it."""
-    names = followed_names(day.settings.words_of(step))
+    names = values_of(day.settings.words_of(step), "--follow")
     return {name: sum_of(name, is_input=True) or sum_of_folder(name) for name in names}
 
 

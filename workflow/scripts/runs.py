@@ -1,5 +1,6 @@
 """What the Snakefile needs of a run: the lock of the study, resources that grow with the case and the attempt, and the summary."""
 import fcntl
+import math
 import os
 import re
 import subprocess
@@ -7,9 +8,11 @@ import sys
 from types import FrameType
 from typing import Any, Callable, Iterator, List, Optional, Tuple, TypeVar
 
-from contents import HIDDEN, refuse_links, write_whole
+from contents import HIDDEN, refuse_links, values_of, write_whole
 from days import Day, Settings
 from hulltools.errors import HullError, one_line
+from hulltools.options import MOST_SECONDS, float_of
+from hulltools.search_limits import SECONDS
 
 Found = TypeVar("Found")
 BESIDE = (".snakemake/conda", ".snakemake/singularity")  # where Snakemake itself may keep links
@@ -138,9 +141,23 @@ def memory(settings: Settings, least: int, per_megabyte: int) -> Callable[..., i
     return lambda wildcards, attempt: int((least + per_megabyte * megabytes(settings, wildcards.day)) * attempt)
 
 
-def minutes(settings: Settings, least: int, per_megabyte: int) -> Callable[..., int]:
-    """Minutes for a job, in the same way."""
-    return lambda wildcards, attempt: int((least + per_megabyte * megabytes(settings, wildcards.day)) * attempt)
+def minutes(settings: Settings, least: int, per_megabyte: int, name: str = "") -> Callable[..., int]:
+    """Minutes for a job, in the same way, and as long as the words of its step, which has this name or is a list, let a solver work."""
+
+    def due(wildcards: Any, attempt: int) -> int:
+        own = (least + per_megabyte * megabytes(settings, wildcards.day)) * attempt
+        return int(own) + solver_minutes(settings, getattr(wildcards, "list", name))
+
+    return due
+
+
+def solver_minutes(settings: Settings, step: str) -> int:
+    """How long the tool of a step lets a solver work, in whole minutes; 0 where there is no such tool."""
+    if step not in ("schedule", "elmp"):
+        return 0
+    given = [float_of(it) for it in values_of(settings.words_of(step), "--seconds")]
+    asked = [it for it in given if it is not None and 0 <= it <= MOST_SECONDS]  # (the tool refuses others)
+    return math.ceil(max(asked, default=SECONDS) / 60)
 
 
 def summary(settings: Settings, scripts: str) -> None:
