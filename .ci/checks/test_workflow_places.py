@@ -310,6 +310,19 @@ class Words(Workflow):
             found = days.days_of(days.settings_from({"days": room}))
             self.assertEqual([day.name for day in found], ["2026-01-01", "_x"])
 
+    def test_where_there_is_no_day_the_table_stays(self) -> None:
+        self.days("one")
+        self.ends_well()
+        table = read(self.result("table.csv"))
+        os.rename(f"{self.study}/days", f"{self.room}/days")
+        os.mkdir(f"{self.study}/days")
+        shutil.copy(f"{self.room}/days/one/case.json", f"{self.study}/days/2026-01-01.json")
+        why = "days: no day is in it: each is a folder there, as 2026-01-01 with case.json"
+        for more, due in (({}, why), ({"only": []}, "only: no day is named in it: leave it out for all days")):
+            is_right, said = self.run_all("--nocolor", **more)
+            self.assertEqual((is_right, said.splitlines()[-1]), (False, due), said)
+        self.assertEqual(read(self.result("table.csv")), table)
+
     def test_a_day_that_is_a_link_to_nothing_is_left(self) -> None:
         """As where it lies on a disk that isn't mounted now."""
         days, plan = script("days"), script("plan")
