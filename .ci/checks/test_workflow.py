@@ -565,6 +565,8 @@ class Lists(Workflow):
                 self.assertGreaterEqual(float(rows[day, name]["above_least_currency"]), 0)
             self.assertLessEqual(float(rows[day, "convex_hull"]["above_least_currency"]), 0.01)
         self.assertEqual(rows["usual", "report"]["uplift_currency"], "164")
+        schedules = {day: row["schedule"] for (day, _), row in rows.items()}
+        self.assertEqual(schedules, {"evening": "given", "made": "made", "usual": "given"})
         units = [
             row for row in self.table() if (row["day"], row["list"]) == ("usual", "report") and row["kind"] != "day"
         ]

@@ -310,6 +310,24 @@ class Words(Workflow):
             found = days.days_of(days.settings_from({"days": room}))
             self.assertEqual([day.name for day in found], ["2026-01-01", "_x"])
 
+    def test_a_file_that_is_named_nearly_as_it_is_due_is_not_passed_over(self) -> None:
+        days, plan = script("days"), script("plan")
+        due = {"schedule.json": ("Schedule.JSON", "schedule.json.txt"), "report.txt": ("report.txt.txt", "report.txt.gz")}
+        for right, names in due.items():
+            for name in names:
+                with tempfile.TemporaryDirectory() as room:
+                    os.makedirs(f"{room}/days/one")
+                    for file in {"case.json", "schedule.json", "report.txt", name} - {right}:
+                        write(f"{room}/days/one/{file}", "{}")
+                    places = {"days": f"{room}/days", "results": f"{room}/results"}
+                    found = plan.plan_of(days.settings_from(places))
+                    why = f"it has {name}, and no {right}: rename it, or move it away"
+                    self.assertEqual(found.refused, {"one": why})
+                    more = {"schedule_words": f"--follow {name}", "report": False, "audit": False}
+                    self.assertEqual(plan.plan_of(days.settings_from({**places, **more})).refused, {})
+                    write(f"{room}/days/one/{right}", "{}")
+                    self.assertEqual(plan.plan_of(days.settings_from(places)).refused, {})
+
     def test_where_there_is_no_day_the_table_stays(self) -> None:
         self.days("one")
         self.ends_well()

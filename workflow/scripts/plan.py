@@ -11,8 +11,7 @@ from functools import cached_property
 from typing import Dict, List, Optional, Tuple
 
 from contents import HIDDEN, drop, drop_made, input_sums, make_folders, record_of, refuse_linked_day, refuse_links
-from contents import refuse_taken
-from contents import why_not_current, write_whole
+from contents import refuse_taken, values_of, why_not_current, write_whole
 from days import REPORT, STEPS, Day, Settings, days_of, refusal_of_name, shown
 from hulltools.errors import HullError, one_line
 
@@ -48,6 +47,9 @@ def why_not_begun(day: Day) -> Optional[str]:
     for what in ("schedule", REPORT):
         if day.is_given(what) and not os.path.isfile(day.path(what)):
             return f"its {os.path.basename(day.path(what))} is no file, or a link to none"
+        meant = name_meant(day, what)
+        if meant:
+            return f"it has {one_line(meant)}, and no {os.path.basename(day.path(what))}: rename it, or move it away"
     try:
         refuse_linked_day(day)  # (a day of which no step is wanted, too: its folder is made)
         for step in day.steps():
@@ -55,6 +57,15 @@ def why_not_begun(day: Day) -> Optional[str]:
     except HullError as error:
         return str(error)
     return None
+
+
+def name_meant(day: Day, what: str) -> Optional[str]:
+    """A file that is named nearly as the schedule or report that the day lacks: one made in its place would be taken for it."""
+    is_wanted = what in day.steps() or what == REPORT and day.settings.audit
+    if day.is_given(what) or not is_wanted or any(values_of(day.settings.words_of(what), "--follow")):
+        return None
+    due = os.path.basename(day.path(what))
+    return next((it for it in sorted(os.listdir(day.given)) if it.lower() in (due, f"{due}.txt", f"{due}.gz")), None)
 
 
 def plan_of(settings: Settings) -> Plan:

@@ -27,7 +27,7 @@ from hulltools.telling import write_text
 
 HEADS = (
     "day list kind unit cost:money dual_value:money payments:money make_whole:money lost_opportunity:money surplus:money uplift:money "
-    "certified_least:money above_least:money earned:money scheduled:money audited"
+    "certified_least:money above_least:money earned:money scheduled:money audited schedule"
 )
 
 
@@ -61,6 +61,7 @@ class Priced:
     audited: Optional[bool] = None
     least: Optional[int] = None
     auditor: str = ""  # the program by which the audit was made
+    schedule: str = ""  # whether the day's schedule was given or made
 
     @property
     def payments(self) -> int:
@@ -134,6 +135,7 @@ def add_day(summary: Summary, day: Day, steps: List[str]) -> None:
     least = certified_least(day) if "convex_hull" in made else None
     for price_list in found:
         price_list.least = least
+        price_list.schedule = "given" if day.is_given("schedule") else "made"
     summary.priced += found
 
 
@@ -156,10 +158,10 @@ def table_of(summary: Summary) -> Table:
         paid = (priced.payments, priced.make_whole, priced.payments - priced.make_whole)
         sums = (priced.cost, priced.value, *paid, priced.surplus, priced.uplift, priced.least, priced.above_least)
         audited = None if priced.audited is None else "yes" if priced.audited else "no"
-        table.add(priced.day, priced.list, "day", None, *sums, None, None, audited)
+        table.add(priced.day, priced.list, "day", None, *sums, None, None, audited, priced.schedule)
         for unit in priced.units:
             paid = (unit.payment, unit.make_whole, unit.lost_opportunity)
-            rest = (None, None, None, None, unit.earned, unit.scheduled, None)
+            rest = (None, None, None, None, unit.earned, unit.scheduled, None, None)
             table.add(priced.day, priced.list, unit.kind, unit.name, None, None, *paid, *rest)
     return table
 

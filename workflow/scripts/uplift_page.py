@@ -96,6 +96,7 @@ def list_table(summary: "Summary") -> str:
 
 def day_table(summary: "Summary") -> str:
     lists, least = summary.lists(), leasts(summary)
+    schedules = {it.day: it.schedule for it in summary.priced}
     found = {name: by_day(summary, name) for name in lists}
     rows = []
     for day in summary.days():
@@ -103,10 +104,13 @@ def day_table(summary: "Summary") -> str:
         cells = "".join(number_cell(0, "") if gap is None else number_cell(gap, money(gap)) for gap in gaps)
         cells += number_cell(least[day], money(least[day])) if day in least else number_cell(0, "")
         report = found.get(REPORT, {}).get(day)
-        cells += f'<td class="text">{"" if report is None else "yes" if report.audited else "no"}</td>'
+        cells += f'<td class="text">{"" if report is None else "yes" if report.audited else "no"}</td><td class="text">{schedules[day]}</td>'
         rows.append(f'<tr><td class="text"><bdi>{html.escape(day)}</bdi></td>{cells}</tr>')
-    about = "Uplift of each list: payments plus surplus. No prices have one below the certified least."
-    return table("Uplift by day", about, ("*Day", *lists, "Certified least", "*Report audited"), rows)
+    about = (
+        "Uplift of each list: payments plus surplus. No prices have one below the certified least. "
+        "A schedule is the day's own (given), or was made here."
+    )
+    return table("Uplift by day", about, ("*Day", *lists, "Certified least", "*Report audited", "*Schedule"), rows)
 
 
 def left_table(summary: "Summary") -> str:
