@@ -396,6 +396,17 @@ class Contents(Workflow):
         self.assertEqual(self.calls(), ["audit days/right", "audit days/wrong"])
 
 
+    def test_a_report_that_is_given_and_not_audited_is_told(self) -> None:
+        self.days("made", "own")
+        write(f"{self.study}/days/own/report.txt", RIGHT.decode())
+        is_right, _ = self.run_all("--retries", "0", audit=False)
+        why = "report: it is its own, and isn't in the table until it is audited: leave audit=false out"
+        self.assertEqual((is_right, self.left(), self.audited()), (False, {"own": [why]}, {"made": "no"}))
+        self.ends_well()
+        self.ends_well(audit=False)
+        self.assertEqual(self.audited(), {"made": "yes", "own": "yes"})
+
+
 class FromOthers(Workflow):
     """Folders that somebody else has made."""
 

@@ -27,7 +27,7 @@ LISTS = {
 }
 REPORT = "report"
 FILES = ("table.csv", "page.html", "left.txt")  # of all days, in the folder of results
-ABOUT = {**LISTS, REPORT: "hull price, with the words that are set"}
+ABOUT = {**LISTS, REPORT: "hull price, with the words that are set, or the day's own report"}
 KEYS = (
     "days",
     "results",
