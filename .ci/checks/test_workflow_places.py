@@ -8,7 +8,9 @@ import shutil
 import subprocess
 import sys
 import tempfile
+import time
 import unittest
+import unittest.mock
 from datetime import date
 from types import SimpleNamespace
 from typing import Any, Dict, List, Tuple
@@ -381,6 +383,54 @@ class Jobs(unittest.TestCase):
             found = runs.minutes(days.settings_from(config), 15, 30, "schedule")
             one = SimpleNamespace(day="x") if name == "schedule" else SimpleNamespace(day="x", list=name)
             self.assertEqual((found(one, 1), found(one, 2)), (due, due + 15), (config, name))
+
+
+class Times(unittest.TestCase):
+    """Snakemake goes by times, so each result has one that isn't before those of its inputs, on whatever disk."""
+
+    def setUp(self) -> None:
+        self.room = tempfile.mkdtemp(prefix="hull-times-")
+        self.addCleanup(shutil.rmtree, self.room)
+        self.plan, days = script("plan"), script("days")
+        self.day = days.Day("one", days.Settings(days=f"{self.room}/days", results=f"{self.room}/results"))
+        self.flag = self.plan.flag_name(self.day.settings.results, "one", "report")
+        self.names = {what: self.day.path(what) for what in ("case", "schedule", "report")}
+        for name in (*self.names.values(), self.flag):
+            os.makedirs(os.path.dirname(name), exist_ok=True)
+            write(name, name)
+            os.utime(name, (1001.5, 1001.5))
+
+    def settle(self, utime: Any) -> None:
+        """Settles times where the file system dates files so."""
+        with unittest.mock.patch("os.utime", utime):
+            self.plan.settle_times(self.day, "report")
+            self.assertGreaterEqual(os.stat(self.names["report"]).st_mtime, os.stat(self.names["case"]).st_mtime)
+            self.plan.raise_flag(self.flag, self.day, "report")
+            self.assertGreater(os.stat(self.flag).st_mtime, os.stat(self.names["report"]).st_mtime)
+
+    def test_a_disk_that_counts_in_two_seconds(self) -> None:
+        utime, now = os.utime, float(int(time.time()) // 2 * 2)
+
+        def in_two_seconds(name: str, times: Tuple[float, float], **more: Any) -> None:
+            utime(name, (times[0] // 2 * 2, times[1] // 2 * 2), **more)
+
+        for at in (1003.0, 1003.5, 1004.0, now, now + 0.9, now + 1.9, now + 1000.5):
+            utime(self.names["case"], (at, at))
+            with unittest.mock.patch("time.time", lambda: now + 1.9):
+                self.settle(in_two_seconds)
+
+    def test_a_file_of_another_user_in_a_shared_folder(self) -> None:
+        utime, own = os.utime, os.stat(self.names["report"]).st_ino
+        os.link(self.names["report"], f"{self.room}/kept")  # (so no other file has its number)
+
+        def of_the_owner(name: str, times: Tuple[float, float], **more: Any) -> None:
+            if os.stat(name).st_ino == own:
+                raise PermissionError(1, "Operation not permitted", name)
+            utime(name, times, **more)
+
+        utime(self.names["case"], (2000, 2000))
+        self.settle(of_the_owner)
+        self.assertEqual(read(self.names["report"]).decode(), self.names["report"])
 
 
 class Large(unittest.TestCase):

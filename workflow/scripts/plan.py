@@ -3,6 +3,7 @@
 Snakemake goes by times. So each step has a flag among its inputs, which is newer than the step's files unless these are what the step
 makes of what lies there.
 """
+import math
 import os
 import secrets
 import time
@@ -105,19 +106,36 @@ def input_time_of(name: str) -> float:
     return max(time_of(name), time_of(os.path.realpath(name)))
 
 
+def set_time(name: str, when: float) -> None:
+    """Dates a file of the workflow; one of another user, who shares the folder, is replaced by a copy first: its owner alone can date it."""
+    try:
+        os.utime(name, (when, when), follow_symlinks=False)
+    except PermissionError:
+        with open(os.open(name, os.O_RDONLY | os.O_NOFOLLOW | os.O_CLOEXEC), "rb") as file:
+            data = file.read()
+        write_whole(name, data)
+        os.utime(name, (when, when), follow_symlinks=False)
+
+
+def told_by_all(when: float) -> float:
+    """The first time from then on that every disk can keep: some count in whole seconds, or in two."""
+    return float(math.ceil(when / 2) * 2)
+
+
 def settle_times(day: Day, step: str) -> None:
     """Gives the step's files a time that isn't before those of its inputs, since they are made of what the inputs hold."""
     inputs = [input_time_of(day.path(what)) for what in STEPS[step].takes]
     when = max(*inputs, time_of(flag_name(day.settings.results, day.name, step)))
     for name in (day.made(file) for file in STEPS[step].makes):
         if time_of(name) < when:
-            os.utime(name, (when, when), follow_symlinks=False)
+            set_time(name, told_by_all(when))
 
 
 def raise_flag(name: str, day: Day, step: str) -> None:
     """Writes a flag that is newer than the step's files, and that holds what none held before: Snakemake looks at both."""
     write_whole(name, secrets.token_hex().encode())
     when = max([time.time(), *(time_of(day.made(file)) for file in STEPS[step].makes)]) + 1
+    when = told_by_all(when)
     os.utime(name, (when, when), follow_symlinks=False)
 
 
