@@ -383,6 +383,18 @@ class Contents(Workflow):
         self.assertIn("1 line of what is left", said.replace("2 lines", "1 line"))
         self.assertEqual((list(self.left()), list(self.audited())), (["one"], ["two"]))
 
+    def test_sums_of_lists_that_have_other_days_are_told(self) -> None:
+        self.days("one", "two")
+        told = "The lists have other days each, so their sums can't be compared."
+        for name in ("one", "two"):
+            self.ends_well(lists=["convex_hull"], only=[name])
+            self.assertNotIn(told, read(self.result("page.html")).decode())
+        write(f"{self.study}/days/two/report.txt", "x\n")
+        self.run_all("--retries", "0", lists=["convex_hull"])
+        self.assertIn(told, read(self.result("page.html")).decode())
+        self.run_all("--retries", "0", lists=[])
+        self.assertIn(" Above the least are the certified days alone.", read(self.result("page.html")).decode())
+
     def test_a_report_that_is_given_is_audited_and_never_written(self) -> None:
         self.days("right", "wrong")
         for name, old in (("right", ""), ("wrong", "payments 164")):

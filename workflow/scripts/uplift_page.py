@@ -91,7 +91,18 @@ def list_table(summary: "Summary") -> str:
         rows.append(
             f'<tr><td class="text">{name}</td><td class="text about">{html.escape(ABOUT[name])}</td>{cells}</tr>'
         )
-    return table("All days together", "Money is in the currency of the cases.", LIST_HEADS, rows)
+    return table("All days together", about_lists(summary), LIST_HEADS, rows)
+
+
+def about_lists(summary: "Summary") -> str:
+    """What the sums of all days are of: they can be compared where each list has the same days."""
+    lists = [by_day(summary, name) for name in summary.lists()]
+    told = "Money is in the currency of the cases."
+    if any(it.least is None for found in lists for it in found.values()):
+        told += " Above the least are the certified days alone."
+    if any(found.keys() != lists[0].keys() for found in lists):
+        told += " <strong>The lists have other days each, so their sums can't be compared.</strong>"
+    return told
 
 
 def day_table(summary: "Summary") -> str:
