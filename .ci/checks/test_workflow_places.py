@@ -301,6 +301,7 @@ class Words(Workflow):
         self.assertEqual(self.refusal(list=["lmp"]), "list: no such setting; is lists meant?")
         self.assertEqual(self.refusal(zzz=1), "zzz: no such setting")
         self.assertEqual(self.refusal(lists="lmp"), "lists: a list is due, in brackets: lists=[lmp]")
+        self.assertTrue(self.refusal(lists=[{"lmp": None}]).startswith("lists: {'lmp': None} isn't one of lmp, elmp, "))
         self.assertEqual(self.refusal(python="/none/py"), "python: /none/py: there is no such program")
         self.assertEqual(self.refusal(results="-r"), "results: -r: write it as ./-r")
 

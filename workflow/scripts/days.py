@@ -150,7 +150,7 @@ def settings_from(config: Mapping[str, Any]) -> Settings:
     if not isinstance(lists, list):
         raise HullError(f"lists: a list is due, in brackets: lists=[{one_line(lists)}]")
     for name in lists:
-        if name not in LISTS:
+        if not isinstance(name, str) or name not in LISTS:  # (a colon behind a name makes it a mapping)
             raise HullError(f"lists: {one_line(name)} isn't one of {', '.join(LISTS)}")
     words = {"schedule": "schedule_words", "elmp": "elmp_words", "convex_hull": "convex_words", REPORT: "report_words"}
     return Settings(
