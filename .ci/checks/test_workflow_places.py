@@ -297,6 +297,17 @@ class Words(Workflow):
         for key in ("schedule_words", "elmp_words", "convex_words", "report_words"):
             self.assertEqual(self.refusal(**{key: '--proposals "5'}), f'{key}: --proposals "5: no closing quotation')
 
+    def test_a_table_that_each_day_would_replace(self) -> None:
+        self.days("one", "two", "three")
+        for name in ("one", "two"):
+            os.remove(f"{self.study}/days/{name}/schedule.json")
+        words = f"--follow {self.study}/days/three/schedule.json --deviations={self.room}/far.csv"
+        is_right, said = self.run_all("--nocolor", schedule_words=words)
+        why = f"schedule_words: each of 2 days would replace {self.room}/far.csv: name one day by only"
+        self.assertEqual((is_right, said.splitlines()[-1]), (False, why), said)
+        is_right, said = self.run_all("-n", schedule_words=words, only=["one", "three"])
+        self.assertTrue(is_right, said)
+
     def test_a_setting_that_there_is_not(self) -> None:
         self.assertEqual(self.refusal(list=["lmp"]), "list: no such setting; is lists meant?")
         self.assertEqual(self.refusal(zzz=1), "zzz: no such setting")

@@ -81,6 +81,13 @@ def plan_of(settings: Settings) -> Plan:
     return plan
 
 
+def refuse_one_table_of_many(plan: Plan, settings: Settings) -> None:
+    """Refuses words by which the schedule of each day would write the same table, where that of the last one stays."""
+    count = sum("schedule" in steps for _, steps in plan.days)
+    for name in values_of(settings.words_of("schedule"), "--deviations") if count > 1 else ():
+        raise HullError(f"schedule_words: each of {count} days would replace {one_line(name)}: name one day by only")
+
+
 def need_step(plan: Optional[Plan], day: Day, step: str) -> None:
     """Refuses a step that isn't planned, which a target may still ask for; a job, which has no plan, looks itself."""
     why = why_not_begun(day) if plan is None else plan.refused.get(day.name)
