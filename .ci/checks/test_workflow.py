@@ -619,6 +619,8 @@ class Lists(Workflow):
             "lmp: prices of 1 period were cut at the limits, per MW and period: energy of period 1 from 20000 to 10000"
         )
         self.assertIn(due, self.left()["dear"])
+        checks = [call for call in self.calls() if call.startswith("check")]
+        self.assertEqual(checks, ["check days/dear"], "another attempt can't help")
 
 
 class Slurm(unittest.TestCase):

@@ -20,7 +20,7 @@ sys.path.insert(0, os.path.dirname(os.path.realpath(__file__)))
 from contents import PROGRAM, alone, audit_mark, basis, drop, log_of, make_folders, record_name, record_of, refuse_taken
 from contents import refuse_too_large, sum_of, why_not_current, write_record, write_whole
 from days import HOME, LISTS, REPORT, STEPS, Day, handed_settings, refusal_of_name, shown
-from hulltools.commands.words import Asker
+from hulltools.commands.words import CUT, MISSED_GAP, Asker
 from hulltools.errors import ENDS, HullError, one_line
 from hulltools.faults import sentence
 from hulltools.named_files import Files
@@ -31,6 +31,10 @@ from hulltools.program import MOST_WORK, Hull
 Made = Dict[str, bytes]
 PASSING = ("2", "7")  # statuses of what may pass: a file that can't be read, no memory
 RIGHT_AUDIT = re.compile(rb"hull-audit 1\nproposals [0-9]+\nright\n")
+
+
+class Missed(HullError):
+    """Why what a solver made isn't taken, where another attempt makes the same."""
 
 
 class Refused(Exception):
@@ -76,6 +80,8 @@ def tool(day: Day, name: str, *words: str) -> None:
         for line in running.stderr:
             last = one_line(line.decode("utf-8", "replace").rstrip("\n"))
             print(last, file=sys.stderr, flush=True)
+    if running.returncode in (MISSED_GAP, CUT):
+        raise Missed(last)
     if running.returncode:
         raise HullError(last or f"{name} ended with status {running.returncode}, and says nothing")
 
@@ -149,7 +155,7 @@ def make_price_list(day: Day, name: str, room: str) -> Made:
     else:
         found = PRICES[name](day)
         if found.cut:  # (the tools have status 3 for it, which leaves a step too)
-            raise HullError(found.told_cuts)
+            raise Missed(found.told_cuts)
         write_whole(prices, found.text().encode())
     return {f"{name}.prices.json": read(prices), f"{name}.settlement.txt": settlement(day, prices)}
 
@@ -220,7 +226,7 @@ def note(day: Day, step: str, of: Dict[str, Any], why: Exception) -> None:
     refuse_taken(day, step)
     for file in STEPS[step].makes:
         drop(day.made(file))
-    stays = isinstance(why, Refused) and not why.passes
+    stays = isinstance(why, Missed) or isinstance(why, Refused) and not why.passes
     write_record(record_name(day, step, "left"), {**of, "why": str(why), "stays": stays})
     write_log(day, step, str(why))
 
