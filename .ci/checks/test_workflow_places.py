@@ -359,9 +359,10 @@ class Words(Workflow):
         """As where it lies on a disk that isn't mounted now."""
         days, plan = script("days"), script("plan")
         with tempfile.TemporaryDirectory() as room:
-            os.symlink("/none/here", f"{room}/2026-01-01")
+            for name, place in (("2026-01-01", "/none/here"), ("2026-01-02", "2026-01-02")):
+                os.symlink(place, f"{room}/{name}")
             found = plan.plan_of(days.settings_from({"days": room, "results": f"{room}/../none"}))
-            self.assertEqual(found.refused, {"2026-01-01": "there is no such folder"})
+            self.assertEqual(found.refused, dict.fromkeys(("2026-01-01", "2026-01-02"), "there is no such folder"))
 
     def test_results_of_a_day_never_lie_where_the_days_are(self) -> None:
         days, plan = script("days"), script("plan")

@@ -295,9 +295,9 @@ def days_of(settings: Settings) -> List[Day]:
     names = settings.only
     if names is None:
         try:
-            # (a link to a folder that isn't there now, as on another disk, is a day that is left)
-            entries = (it for it in os.scandir(settings.days) if it.is_dir() or not os.path.exists(it.path))
-            named = (entry.name for entry in entries)
+            # (a link to a folder that isn't there now, as on another disk, or to itself, is a day that is left)
+            paths = ((it.name, it.path) for it in os.scandir(settings.days))
+            named = (name for name, path in paths if os.path.isdir(path) or not os.path.exists(path))
             names = sorted(name for name in named if not name.startswith("."))  # (editors and disks keep such folders)
         except OSError as error:
             raise HullError(f"{one_line(settings.days)}: {error.strerror}") from None
