@@ -408,6 +408,11 @@ class Contents(Workflow):
         self.assertEqual(self.calls(), ["audit days/right", "audit days/wrong"])
 
 
+    def test_words_that_say_how_many_workers(self) -> None:
+        self.days("one")
+        self.ends_well(report_words="--proposals 2 --ahead 1 --workers 2")
+        self.assert_priced("one")
+
     def test_a_report_that_is_given_and_not_audited_is_told(self) -> None:
         self.days("made", "own")
         write(f"{self.study}/days/own/report.txt", RIGHT.decode())

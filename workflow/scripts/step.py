@@ -107,7 +107,9 @@ def settlement(day: Day, prices: str) -> bytes:
 
 
 def report(day: Day, *words: str) -> bytes:
-    text = hull(day, "price", "--workers", "1", *words)
+    """A report, by one worker unless the words say how many: its bytes are the same."""
+    workers = () if "--workers" in words else ("--workers", "1")
+    text = hull(day, "price", *workers, *words)
     parse_output("hull price", text, ("hull-report 1",))
     return text
 
