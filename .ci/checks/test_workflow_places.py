@@ -297,6 +297,14 @@ class Words(Workflow):
         for key in ("schedule_words", "elmp_words", "convex_words", "report_words"):
             self.assertEqual(self.refusal(**{key: '--proposals "5'}), f'{key}: --proposals "5: no closing quotation')
 
+    def test_a_day_that_the_run_cannot_begin_is_told(self) -> None:
+        self.days("one", "two")
+        os.makedirs(self.result("one/.steps/report.flag"))
+        is_right, said = self.run_all("--nocolor", "--retries", "0")
+        self.assertFalse(is_right)
+        self.assertRegex(said, r"(?m)^one: .*results/one/\.steps/.*: Is a directory$")
+        self.assertEqual((list(self.left()), self.audited()), (["one"], {"two": "yes"}))
+
     def test_a_table_that_each_day_would_replace(self) -> None:
         self.days("one", "two", "three")
         for name in ("one", "two"):

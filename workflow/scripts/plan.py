@@ -6,6 +6,7 @@ makes of what lies there.
 import math
 import os
 import secrets
+import sys
 import time
 from dataclasses import dataclass, field
 from functools import cached_property
@@ -191,6 +192,7 @@ def set_flags(plan: Plan) -> None:
             why = f"{one_line(error.filename or day.folder)}: {error.strerror}"
         plan.days.remove((day, steps))
         plan.refused[day.name] = why
+        print(f"{shown(day.name)}: {one_line(why)}", file=sys.stderr, flush=True)  # (what is left can't say it later)
 
 
 def show_flags(plan: Plan, folder: str) -> Dict[str, List[str]]:
