@@ -385,7 +385,7 @@ class Contents(Workflow):
 
     def test_sums_of_lists_that_have_other_days_are_told(self) -> None:
         self.days("one", "two")
-        told = "The lists have other days each, so their sums can't be compared."
+        told = "Not every list has all of these days, so don't compare their sums."
         for name in ("one", "two"):
             self.ends_well(lists=["convex_hull"], only=[name])
             self.assertNotIn(told, read(self.result("page.html")).decode())

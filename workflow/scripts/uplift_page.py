@@ -101,7 +101,7 @@ def about_lists(summary: "Summary") -> str:
     if any(it.least is None for found in lists for it in found.values()):
         told += " Above the least are the certified days alone."
     if any(found.keys() != lists[0].keys() for found in lists):
-        told += " <strong>The lists have other days each, so their sums can't be compared.</strong>"
+        told += " <strong>Not every list has all of these days, so don't compare their sums.</strong>"
     return told
 
 
