@@ -334,8 +334,11 @@ class Words(Workflow):
 
     def test_a_file_that_is_named_nearly_as_it_is_due_is_not_passed_over(self) -> None:
         days, plan = script("days"), script("plan")
-        due = {"schedule.json": ("Schedule.JSON", "schedule.json.txt"), "report.txt": ("report.txt.txt", "report.txt.gz")}
-        for right, names in due.items():
+        nearly = {
+            "schedule.json": ("Schedule.JSON", "schedule.json.txt"),
+            "report.txt": ("report.txt.txt", "report.txt.gz"),
+        }
+        for right, names in nearly.items():
             for name in names:
                 with tempfile.TemporaryDirectory() as room:
                     os.makedirs(f"{room}/days/one")

@@ -304,5 +304,7 @@ def days_of(settings: Settings) -> List[Day]:
     if not names and settings.only is not None:
         raise HullError("only: no day is named in it: leave it out for all days")
     if not names:  # (a table of none would replace that of the days before, as where their disk isn't mounted now)
-        raise HullError(f"{one_line(settings.days)}: no day is in it: each is a folder there, as 2026-01-01 with case.json")
+        raise HullError(
+            f"{one_line(settings.days)}: no day is in it: each is a folder there, as 2026-01-01 with case.json"
+        )
     return [Day(name, settings) for name in dict.fromkeys(names)]

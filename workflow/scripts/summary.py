@@ -128,7 +128,8 @@ def add_day(summary: Summary, day: Day, steps: List[str]) -> None:
     if any(why.values()):
         summary.left += [(day.name, f"{one_line(it)} may not be written by this user") for it in barred_folders(day)]
     if not day.settings.audit and day.settings.report and day.is_given(REPORT) and not is_marked(day):
-        summary.left.append((day.name, "report: it is its own, and isn't in the table until it is audited: leave audit=false out"))
+        why_out = "report: it is its own, and isn't in the table until it is audited: leave audit=false out"
+        summary.left.append((day.name, why_out))
     made = [step for step in steps if why[step] is None]
     found = [priced(day, name, day.made(f"{name}.settlement.txt")) for name in LISTS if name in made]
     if REPORT in made or day.is_given(REPORT) and is_marked(day):

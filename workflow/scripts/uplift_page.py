@@ -115,7 +115,8 @@ def day_table(summary: "Summary") -> str:
         cells = "".join(number_cell(0, "") if gap is None else number_cell(gap, money(gap)) for gap in gaps)
         cells += number_cell(least[day], money(least[day])) if day in least else number_cell(0, "")
         report = found.get(REPORT, {}).get(day)
-        cells += f'<td class="text">{"" if report is None else "yes" if report.audited else "no"}</td><td class="text">{schedules[day]}</td>'
+        cells += f'<td class="text">{"" if report is None else "yes" if report.audited else "no"}</td>'
+        cells += f'<td class="text">{schedules[day]}</td>'
         rows.append(f'<tr><td class="text"><bdi>{html.escape(day)}</bdi></td>{cells}</tr>')
     about = (
         "Uplift of each list: payments plus surplus. No prices have one below the certified least. "
