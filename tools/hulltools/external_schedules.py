@@ -25,6 +25,7 @@ from .tables import as_it_was
 MOST_MEGAWATTS = 1_000_000
 KILOWATTS_FROM = 10  # times the most that a unit gives: a greater power isn't in megawatts
 FLAG_OFF = 0.01  # how far from 0 or 1 a solver may leave an on flag
+LEAST_ON = 0.0005  # megawatts: a lower power is 0 in whole kilowatts, as a solver leaves it of a unit that is off
 COLUMNS = ("unit", "period", "on", "power", "reserve")  # of a table
 NEAR = 0.75  # how like another name is that is most likely meant
 OF_A_MERGE = re.compile("_[xy]\\Z")  # what pandas puts behind a column that both frames have
@@ -539,7 +540,7 @@ def with_flags(found: Followed, case: Case, name: str, hint: str = "") -> Follow
     for unit in case.thermal:
         refuse_no_flag(found, unit.name, name)
         if unit.name not in found.on and unit.name in found.power:
-            found.on[unit.name] = [float(power > 1e-6 or unit.must_run) for power in found.power[unit.name]]
+            found.on[unit.name] = [float(power > LEAST_ON or unit.must_run) for power in found.power[unit.name]]
             if not unit.least and not all(found.on[unit.name]):
                 found.guessed.append(unit.name)
         if unit.name not in found.names:

@@ -81,6 +81,11 @@ class ExternalSchedules(unittest.TestCase):
             for flag in ("0.9999999", "1.005", "-1e-7", "0", "1"):
                 self.assertEqual(self.read((text % flag).encode()).on, {"G1": [float(flag)]})
 
+    def test_what_a_solver_leaves_of_a_power_is_no_on_flag(self) -> None:
+        """Half a kilowatt is 0 in whole kilowatts, and more isn't."""
+        for power, on in (("2e-6", 0.0), ("-1e-5", 0.0), ("0.0005", 0.0), ("0.0006", 1.0), ("8", 1.0)):
+            self.assertEqual(self.read(f"unit,period,power\nG1,1,{power}\n".encode()).on, {"G1": [on]}, power)
+
     def test_reserves_of_several_products_are_refused(self) -> None:
         text = '{"Is on":{"G1":[1]},"Thermal production (MW)":{"G1":[10]},"Spinning reserve (MW)":{%s}}'
         self.assertEqual(self.read((text % '"r1":{"G1":[1]}').encode()).reserve, {"G1": [1.0]})
