@@ -525,6 +525,15 @@ def refuse_kilowatts(followed: Followed, case: Case, name: str, hint: str) -> No
                     raise HullError(why, unit=unit.name, period=t)
 
 
+def refuse_negative_reserves(followed: Followed, case: Case, name: str) -> None:
+    """Refuses a reserve below 0, but for what a solver leaves of 0."""
+    for unit in case.thermal:
+        for t, reserve in enumerate(followed.reserve.get(unit.name, ()), 1):
+            if reserve < -LEAST_ON:
+                told = f"reserve {reserve:.10g} MW of {one_line(unit.name)} in period {t}"
+                raise HullError(f"{name}: {told}: at least 0 is due", unit=unit.name, period=t)
+
+
 def refuse_no_flag(followed: Followed, unit: str, name: str) -> None:
     """Refuses an on flag that is far from 0 and 1, since it is no commitment, as of a relaxation or of a count of units."""
     for t, on in enumerate(followed.on.get(unit, ()), 1):
@@ -534,9 +543,10 @@ def refuse_no_flag(followed: Followed, unit: str, name: str) -> None:
 
 
 def with_flags(found: Followed, case: Case, name: str, hint: str = "") -> Followed:
-    """The same, with on flags for each thermal unit that has powers; refused where it has neither, or where powers are in kilowatts."""
+    """The same, with on flags for each thermal unit that has powers; refused where it has neither, or where powers are in kilowatts or reserves below 0."""
     refuse_mixed(found, case, name)
     refuse_kilowatts(found, case, name, hint)
+    refuse_negative_reserves(found, case, name)
     for unit in case.thermal:
         refuse_no_flag(found, unit.name, name)
         if unit.name not in found.on and unit.name in found.power:

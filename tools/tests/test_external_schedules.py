@@ -86,6 +86,14 @@ class ExternalSchedules(unittest.TestCase):
         for power, on in (("2e-6", 0.0), ("-1e-5", 0.0), ("0.0005", 0.0), ("0.0006", 1.0), ("8", 1.0)):
             self.assertEqual(self.read(f"unit,period,power\nG1,1,{power}\n".encode()).on, {"G1": [on]}, power)
 
+    def test_a_reserve_below_0_is_refused(self) -> None:
+        with self.assertRaises(HullError) as found:
+            self.read((HEAD + "G1,1,1,10,-0.002\n").encode())
+        due = "reserve -0.002 MW of G1 in period 1: at least 0 is due"
+        self.assertTrue(found.exception.sentence.endswith(due), found.exception)
+        self.assertEqual((found.exception.unit, found.exception.period), ("G1", 1))
+        self.assertEqual(self.read((HEAD + "G1,1,1,10,-1e-9\n").encode()).reserve, {"G1": [-1e-9]})
+
     def test_reserves_of_several_products_are_refused(self) -> None:
         text = '{"Is on":{"G1":[1]},"Thermal production (MW)":{"G1":[10]},"Spinning reserve (MW)":{%s}}'
         self.assertEqual(self.read((text % '"r1":{"G1":[1]}').encode()).reserve, {"G1": [1.0]})
