@@ -44,7 +44,7 @@ from .provenance import refuse_changed, sums_of_files
 from .fast_start import FastStart
 from .relaxation import fast_start_prices, held_prices, relaxed_prices
 from .deviations import in_words
-from .external_schedules import as_followed, free_units, some, strangers
+from .external_schedules import as_followed, free_units, has_powers, some, strangers
 from .scheduling import Made, follow
 from .search_limits import SECONDS, SearchLimits
 from .scheduling import make_schedule as search_schedule
@@ -121,7 +121,7 @@ def follow_schedule(
     with told_to(tell):
         found = follow(read, followed, name, seconds)
         found.checked_cost = program.check(case, found.schedule)
-    said(in_words(found.deviations, name))
+    said(in_words(found.deviations, name, has_powers(followed, read)))
     return found
 
 

@@ -54,11 +54,13 @@ def farthest(found: Sequence[Deviation], what: str) -> float:
     return max((abs(it.off) for it in found if it.what == what), default=0.0)
 
 
-def in_words(found: Sequence[Deviation], name: str) -> str:
-    """What a table of deviations says in a sentence."""
+def in_words(found: Sequence[Deviation], name: str, has_powers: bool = True) -> str:
+    """What a table of deviations says in a sentence; of a file without powers, that nothing but commitments was followed."""
     off = farthest(found, "power")
     large = [it for it in found if abs(it.off) > ROUNDING]
     reserves = f"; {count(large, 'reserve')} reserves differ" if count(large, "reserve") else ""
+    if not has_powers:
+        return f"its commitments are those of {name}, which has no powers of the case's units{reserves}"
     if off <= SAME:
         return f"its powers are those of {name}{reserves}"
     if off <= ROUNDING:

@@ -445,6 +445,11 @@ def free_units(followed: Followed, case: Case) -> List[str]:
     return [unit.name for _, unit in case.units if unit.name not in followed.power]
 
 
+def has_powers(followed: Followed, case: Case) -> bool:
+    """Whether it has the powers of any unit or bid."""
+    return any(unit.name in followed.power for _, unit in case.units)
+
+
 def some(names: Sequence[str]) -> str:
     """The first of the names."""
     return f"{', '.join(names[:3])}{', ..' * (len(names) > 3)}"

@@ -232,6 +232,20 @@ class Follow(unittest.TestCase):
         due = "make_schedule.py: plan.json has no powers of WIND1, WIND2, which are free"
         self.assertEqual(said.splitlines()[0], due)
 
+    def test_a_file_without_powers_is_told(self) -> None:
+        """Its commitments are kept, and nothing says that its powers are."""
+
+        def bare(plan: Dict[str, Any]) -> None:
+            plan["renewable"], plan["bids"] = {}, {}
+            plan["thermal"] = {name: {"on": row["on"]} for name, row in plan["thermal"].items()}
+
+        other_forms.write_json(f"{self.room}/plan.json", self.megawatts(bare))
+        status, said = self.follow("plan.json")
+        due = "; its commitments are those of plan.json, which has no powers of the case's units\n"
+        self.assertEqual((status, said[-len(due) :]), (0, due), said)
+        flags = {name: row["on"] for name, row in self.plan["thermal"].items()}
+        self.assertEqual({name: row["on"] for name, row in self.made()["thermal"].items()}, flags)
+
     def test_a_name_of_two_kinds_is_refused(self) -> None:
         def both(plan: Dict[str, Any]) -> None:
             plan["renewable"]["COAL1"] = plan["renewable"].pop("WIND1")

@@ -40,7 +40,7 @@ from typing import Optional, Union
 
 from ..cases import Case, read_case
 from ..deviations import farthest, in_words, table_text
-from ..external_schedules import free_units, read_followed, some, strangers
+from ..external_schedules import free_units, has_powers, read_followed, some, strangers
 from ..kept_work import write_found
 from ..linear import need_scipy
 from ..numbers import Millionths, money
@@ -90,7 +90,7 @@ def followed_schedule(given: Given, case: Case, tell: Tell) -> tuple[Made, str]:
     found = made.deviations
     if given.deviations:
         write_whole(given.deviations, table_text(found), inputs_of(given))
-    told = in_words(found, given.follow)
+    told = in_words(found, given.follow, has_powers(followed, case))
     if unknown := strangers(followed, case):
         told += f"; the case has no {some(unknown)}, which it names"
     if given.tolerance is not None and farthest(found, "power") > 1e3 * given.tolerance:
