@@ -115,6 +115,7 @@ def follow_schedule(
         (free_units(followed, read), "are free"),
         (followed.guessed, "have no on flags, and are off where the power is 0"),
         (strangers(followed, read), "aren't in the case"),
+        (followed.skipped, "are skipped"),
     ):
         if names:
             said(f"{name}: {some(names)} {is_so}")

@@ -6,7 +6,7 @@ import difflib
 import math
 import os
 import re
-from dataclasses import dataclass, field
+from dataclasses import dataclass, field, replace
 from datetime import datetime, timedelta
 from typing import Any, Dict, Iterable, Iterator, List, Mapping, Optional, Sequence, Set, Tuple
 
@@ -57,6 +57,7 @@ class Followed:
     guessed: List[str] = field(
         default_factory=list
     )  # units without on flags that are taken as off where they give nothing, and could be on
+    skipped: List[str] = field(default_factory=list)  # columns of a table, or keys of its rows, that aren't read
 
     @property
     def names(self) -> Set[str]:
@@ -269,6 +270,7 @@ def followed_value(value: Any, name: str, periods: int) -> Followed:
             )
         if keys is PLAIN and isinstance(row, dict):
             refuse_misspelt(row, f"{name}: {one_line(unit)}", list(PLAIN), "key")
+            found.skipped += [key for key in row if key not in (*PLAIN, *found.skipped)]
         lists: Dict[str, Any] = {}
         for what, names in keys.items():
             key = next((it for it in names if isinstance(row, dict) and it in row), None)
@@ -292,7 +294,13 @@ def followed_csv(data: bytes, name: str, periods: int) -> Followed:
         for column in (it for it in columns if it != "unit"):
             refuse_line_end(row[column], f"{name}, line {line}")
         row["unit"] = as_it_was(row["unit"])
-    return followed_rows(((f"{name}, line {line}", row) for line, row in rows), name, periods)
+    found = followed_rows(((f"{name}, line {line}", row) for line, row in rows), name, periods)
+    return replace(found, skipped=unread(columns))
+
+
+def unread(columns: Iterable[Any]) -> List[str]:
+    """The columns of a table that aren't read; one without a name is an index, as pandas writes it."""
+    return [str(column) for column in columns if column != "" and column not in COLUMNS]
 
 
 def refuse_misspelt(found: Iterable[Any], name: str, known: Sequence[str], what: str) -> None:
@@ -315,9 +323,8 @@ def followed_frame(frame: Any, name: str, periods: int) -> Followed:
     refuse_twice_named([column for column in frame.columns if column in COLUMNS], name)
     known = frame[[column for column in COLUMNS if column in frame.columns]]
     cells = known.astype(object).where(known.notna(), None)
-    return followed_rows(
-        ((f"{name}, row {place}", row) for place, row in enumerate(cells.to_dict("records"), 1)), name, periods
-    )
+    rows = ((f"{name}, row {place}", row) for place, row in enumerate(cells.to_dict("records"), 1))
+    return replace(followed_rows(rows, name, periods), skipped=unread(frame.columns))
 
 
 def followed_schedule(schedule: Schedule, name: str, periods: int) -> Followed:

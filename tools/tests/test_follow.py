@@ -221,6 +221,19 @@ class Follow(unittest.TestCase):
         self.assertIn(f'"{why.unit}"', why.sentence)
         self.assertIn(f"period {why.period}", why.sentence)
 
+    def test_columns_and_keys_that_are_skipped_are_told(self) -> None:
+        text = b",unit,period,status,power,spin\n0,G1,1,1,5,2\n"
+        self.assertEqual(followed_csv(text, "rows", 1).skipped, ["status", "spin"])
+
+        def other(plan: Dict[str, Any]) -> None:
+            for row in plan["thermal"].values():
+                row["status"] = row.pop("on")
+
+        other_forms.write_json(f"{self.room}/plan.json", self.megawatts(other))
+        status, said = self.follow("plan.json")
+        due = "make_schedule.py: plan.json has status, which nothing reads\n"
+        self.assertEqual((status, said[: len(due)]), (0, due), said)
+
     def test_an_empty_cell_is_0_where_the_unit_is_off(self) -> None:
         found = followed_csv(b"unit,period,on,power,reserve\nG1,1,0,,\nG1,2,1,5,\n", "rows", 2)
         self.assertEqual((found.on, found.power, found.reserve), ({"G1": [0.0, 1.0]}, {"G1": [0.0, 5.0]}, {}))

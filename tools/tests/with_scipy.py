@@ -715,8 +715,9 @@ class Calls(unittest.TestCase):
         again = hulltools.follow_schedule(known["case"], as_dict, hull=PROGRAM)
         self.assertEqual(again.schedule, followed.schedule)
         said = []
-        near = powers.assign(power=[10.0, 100.0, 17.0, 0.0])
+        near = powers.assign(power=[10.0, 100.0, 17.0, 0.0], spin=0)
         hulltools.follow_schedule(known["case"], near, hull=PROGRAM, tell=said.append)
+        self.assertIn("the powers given: spin are skipped", said)
         self.assertRegex(
             said[-1], "^1 of its powers differs from the powers given by up to 0.5 MW: PEAKER in period 1: "
         )

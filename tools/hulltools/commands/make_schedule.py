@@ -84,6 +84,8 @@ def followed_schedule(given: Given, case: Case, tell: Tell) -> tuple[Made, str]:
     followed = read_followed(given.follow, case)
     if free := free_units(followed, case):
         tell(f"{given.follow} has no powers of {some(free)}, which are free")
+    if followed.skipped:
+        tell(f"{given.follow} has {some(followed.skipped)}, which nothing reads")
     if followed.guessed:
         tell(f"{given.follow} has no on flags of {some(followed.guessed)}: off is taken where the power is 0")
     made = follow(case, followed, given.follow, solver_seconds(given))
