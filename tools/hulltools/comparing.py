@@ -14,6 +14,10 @@ from .tables import Table, as_it_was
 LARGEST = 10**15
 AMOUNT = re.compile(r"[+-]?(?:[1-9][0-9]{0,2}(?:,[0-9]{3})+|[0-9]*)(?:\.[0-9]*)?(?:[eE][+-]?[0-9]{1,3})?")
 
+# Tables of this package with rows of several texts: columns that they have, and how many of these say which text it is.
+OF_TEXTS = ((["list", "kind", "unit"], 1), (["report", "side", "kind", "name"], 2))
+OTHER_MONEY = "_millionths"  # as the columns of our tables end that aren't in the currency
+
 
 @dataclass(frozen=True)
 class Difference:
@@ -63,6 +67,16 @@ def key_of(cell: str, kind: str, known: Mapping[str, Sequence[str]], where: str)
     return f"{said}:{name}" if len(kinds) > 1 or is_other else name
 
 
+def refuse_several(columns: List[str], rows: Sequence[Mapping[str, str]], name: str) -> None:
+    """Refuses a table of this package that is of several price lists or texts: their amounts would be added up."""
+    for begin, parts in OF_TEXTS:
+        if set(begin) <= set(columns):
+            texts = list(dict.fromkeys(" ".join(row[it] for it in begin[:parts]).strip() for row in rows))
+            if len(texts) > 1:
+                told = f"it has rows of {one_line(texts[0])} and of {one_line(texts[1])}"
+                raise HullError(f"{name}: {told}, and those of one alone are a statement")
+
+
 def statement_of(
     name: str, text: str, units: Sequence[Owed] = (), unit: str = "unit", amount: str = "amount"
 ) -> Dict[str, Millionths]:
@@ -75,6 +89,9 @@ def statement_of(
     missing = [it for it in (unit, amount) if it not in columns]
     if missing:
         raise HullError(f"{name}: there is no column {missing[0]!r}")
+    refuse_several(columns, [row for _, row in rows], name)
+    if amount.endswith(OTHER_MONEY):
+        raise HullError(f"{name}: `{one_line(amount)}` is in millionths: `report.py csv --currency` writes the currency")
     found: Dict[str, Millionths] = {}
     for line, row in rows:
         for column in (it for it in columns if it != unit):

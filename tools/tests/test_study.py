@@ -375,6 +375,23 @@ class Compare(unittest.TestCase):
         found = statement_of("units.csv", table.text(), amount="amount_currency")
         self.assertEqual({name.strip(): amount for name, amount in found.items()}, due)
 
+    def test_our_own_tables_of_several_lists_or_in_millionths_are_refused(self):
+        """Amounts of several lists would be added up, and those in millionths be taken as of the currency."""
+        rows = "".join(f"{it},{it.lower()},thermal,PEAKER,500\n" for it in ("LMP", "ELMP"))
+        head = "list,key,kind,unit,payment_currency\n"
+        words = ("--amount", "payment_currency")
+        due = "it has rows of LMP and of ELMP, and those of one alone are a statement\n"
+        self.assertIn(due, self.compare(head + rows, *words)[2])
+        one = self.compare(head + rows.splitlines()[0] + "\nLMP,lmp,bid,STEEL,150\n", *words)
+        self.assertEqual((one[0], one[2]), (0, "compare.py: 0 of 5 units differ, by 0.00 in sum\n"))
+        head = "report,side,kind,name,payment_currency\n"
+        rows = "".join(f"a.txt,{it},thermal,PEAKER,500\n" for it in ("hull", "fixed"))
+        due = "it has rows of a.txt hull and of a.txt fixed, and those of one alone are a statement\n"
+        self.assertIn(due, self.compare(head + rows, "--unit", "name", *words)[2])
+        status, _, said = self.compare("unit,payment_millionths\nPEAKER,500000000\n", "--amount", "payment_millionths")
+        due = "`payment_millionths` is in millionths: `report.py csv --currency` writes the currency\n"
+        self.assertEqual((status, said[-len(due) :]), (1, due), said)
+
     def test_differences_are_sorted(self):
         status, text, said = self.compare(
             'name,paid\nPEAKER,"1,000"\nPEAKER,-400\nGAS,20\n', "--unit", "name", "--amount", "paid"
