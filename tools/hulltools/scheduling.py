@@ -136,6 +136,10 @@ def why_not(case: Case) -> Tuple[Optional[int], str]:
         if kept < case.reserves[t]:
             required = f"{case.reserves[t] / 1e3:g} MW are required"
             return t + 1, f"{told}can keep at most {kept / 1e3:g} MW in reserve, and {required}"
+        both = case.demand[t] + case.reserves[t]
+        if most < both:
+            required = f"demand and the required reserve are {both / 1e3:g} MW"
+            return t + 1, f"{told}give at most {most / 1e3:g} MW, and {required}"
     return None, ""
 
 
@@ -171,10 +175,10 @@ def rules_that_bar(case: Case, until: float) -> str:
         if program.solve(time_limit=seconds).x is not None:
             found.append(name)
     if not found:
-        alone = ": each period can be met by itself, but no rule that is left out alone makes a schedule possible"
+        alone = ": no period's sums show why, and no rule that is left out alone makes a schedule possible"
         return f"{alone}{units_that_bar(case)}"
     bars = f"there would be a schedule without {', or without '.join(found)}"
-    return f": each period can be met by itself; {bars}{units_that_bar(case)}"
+    return f": no period's sums show why; {bars}{units_that_bar(case)}"
 
 
 def powers_found(model: Commitment, x: Sequence[float]) -> Powers:

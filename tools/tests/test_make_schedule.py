@@ -85,8 +85,12 @@ class MakeSchedule(unittest.TestCase):
             self.make(self.changed("evening", '"reserves":[0,5,5', '"reserves":[0,195,5'))[2],
         )
         self.assertIn(
-            "can't be met: each period can be met by itself; there would be a schedule without the required reserve",
+            "can't be met: in period 2 the units give at most 170 MW, and demand and the required reserve are 195 MW",
             self.make(self.changed("evening", '"reserves":[0,5,5', '"reserves":[0,95,5'))[2],
+        )
+        self.assertIn(
+            "can't be met: no period's sums show why; there would be a schedule without the required reserve",
+            self.make(self.changed("evening", '"reserves":[0,5,5', '"reserves":[0,65,5'))[2],
         )
 
     def test_rules_that_contradict_are_told(self):
