@@ -47,8 +47,8 @@ class Barred(NamedTuple):
     period: Optional[int] = None
 
 
-def why_flags(case: Case, flags: List[List[int]]) -> Barred:
-    """Which rule of which unit the commitments break; where none, what is left."""
+def barred_flags(case: Case, flags: List[List[int]]) -> Optional[Barred]:
+    """Which rule of which unit the commitments break; None where they break none."""
     state = {0: "off", 1: "on"}
     for unit, on in zip(case.thermal, flags):
         found = next(flag_breaches(unit, on), None)
@@ -57,4 +57,10 @@ def why_flags(case: Case, flags: List[List[int]]) -> Barred:
             known = dict(who=called("thermal", unit.name), period=period, left=left, right=right)
             known.update(left_is=state.get(left, left), right_is=state.get(right, right))
             return Barred(str(RULES[code].format_map(Known(known))), unit.name, period or None)
-    return Barred("each unit may be on and off as they say, but ramps, balance or reserve can't be kept with them")
+    return None
+
+
+def why_flags(case: Case, flags: List[List[int]]) -> Barred:
+    """The same; where they break none, what is left."""
+    left = "each unit may be on and off as they say, but ramps, balance or reserve can't be kept with them"
+    return barred_flags(case, flags) or Barred(left)

@@ -13,7 +13,7 @@ from .commitment import Commitment, Flags
 from .costs import most_below_lines
 from .deviations import Deviation, deviations, farthest
 from .external_schedules import Followed
-from .impossible import units_that_bar, why_flags
+from .impossible import barred_flags, units_that_bar, why_flags
 from .lint_units import clash
 from .linear import Solved, Term, was_cut_by_the_clock
 from .numbers import Millionths, in_currency
@@ -314,7 +314,8 @@ def near_to(case: Case, followed: Followed, name: str) -> Made:
     flags = [[int(it > 0.5) for it in followed.on[unit.name]] for unit in case.thermal]
     model, wanted = Commitment(case), wanted_powers(case, followed)
     model.fix(flags)
-    solved = nearest(model, wanted)
+    # (flags that are held are held against the rules that the state before period 1 and windows give, too)
+    solved = None if barred_flags(case, flags) else nearest(model, wanted)
     if solved is None:
         why = why_flags(case, flags)
         told = f"{name}: its commitments can't be met in this case: {why.sentence}"

@@ -431,6 +431,21 @@ class Follow(unittest.TestCase):
         told = 'plan.json: its commitments can\'t be met in this case: thermal unit "CCGT3" stops in period 10 after 2 periods on, and 4 are due'
         self.assertEqual((status, said), (1, f"make_schedule.py: {told}\n"))
 
+    def test_commitments_that_the_state_before_bars(self) -> None:
+        """The powers can be kept with CCGT3 on, but it has been off for an hour, and four are due."""
+        case = market.case()
+        case["thermal_generators"]["CCGT3"]["time_down_t0"] = 1
+        with open(f"{self.room}/case.json", "w", encoding="utf-8") as file:
+            file.write(market.text(case))
+
+        def early(plan: Dict[str, Any]) -> None:
+            plan["thermal"]["CCGT3"]["on"] = [1] * 24
+
+        other_forms.write_json(f"{self.room}/plan.json", self.megawatts(early))
+        status, said = self.follow("plan.json")
+        told = "plan.json: its commitments can't be met in this case: thermal unit \"CCGT3\" is on in period 1, and has to stay off then"
+        self.assertEqual((status, told in said), (1, True), said)
+
     def test_an_impossible_case_names_the_unit(self) -> None:
         """CCGT3 is needed in the evening, and its start limit bars it."""
         case = market.case()
