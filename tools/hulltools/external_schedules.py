@@ -357,6 +357,9 @@ def followed_rows(rows: Iterable[Tuple[str, Mapping[str, Any]]], name: str, peri
         what: {unit: whole_list(cells, what, unit, name, periods) for unit in by_unit}
         for what, by_unit in cells.items()
     }
+    for unit, flags in lists["on"].items():
+        if max(flags) <= 0.5:  # (each of its empty cells is 0)
+            lists["power"].setdefault(unit, [0.0] * periods)
     return Followed(lists["on"], lists["power"], lists["reserve"])
 
 

@@ -237,6 +237,8 @@ class Follow(unittest.TestCase):
     def test_an_empty_cell_is_0_where_the_unit_is_off(self) -> None:
         found = followed_csv(b"unit,period,on,power,reserve\nG1,1,0,,\nG1,2,1,5,\n", "rows", 2)
         self.assertEqual((found.on, found.power, found.reserve), ({"G1": [0.0, 1.0]}, {"G1": [0.0, 5.0]}, {}))
+        found = followed_csv(b"unit,period,on,power\nG1,1,0,\nG1,2,0,\nG2,1,0,\nG2,2,1,\n", "rows", 2)
+        self.assertEqual(found.power, {"G1": [0.0, 0.0]})
 
     def test_units_without_powers_are_told(self) -> None:
         other_forms.write_json(f"{self.room}/plan.json", self.megawatts(lambda plan: plan["renewable"].clear()))
