@@ -318,6 +318,19 @@ class Follow(unittest.TestCase):
             )
             self.assertEqual((status, said), (1, "make_schedule.py: --tolerance and --deviations go with --follow\n"))
 
+    def test_empty_names_are_refused_before_anything_is_made(self) -> None:
+        """As of a variable of a shell that isn't set; no search takes the place of what is to be followed."""
+        other_forms.write_json(f"{self.room}/plan.json", self.megawatts())
+        plan, case, made = (f"{self.room}/{it}.json" for it in ("plan", "case", "made"))
+        for words, due in (
+            ([case, made, "--follow", ""], "--follow needs the name of a file or a folder\n"),
+            ([case, made, "--follow", plan, "--deviations", ""], "Is a directory\n"),
+            ([case, ""], "Is a directory\n"),
+        ):
+            status, _, said = run("make_schedule.py", *words, "--hull", PROGRAM, python=self.python)
+            self.assertEqual((status, said.count("\n"), said[-len(due) :]), (1, 1, due), said)
+        self.assertFalse(os.path.exists(made))
+
     def test_a_solution_of_unit_commitment_jl(self) -> None:
         """Of the converted instance, whose buyer is three loads; the spinning reserve stands under its product."""
         other_forms.write_json(f"{self.room}/instance.json", other_forms.unit_commitment_jl())

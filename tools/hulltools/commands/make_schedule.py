@@ -76,7 +76,7 @@ def checked_case(hull: Hull, name: str) -> Case:
 
 def inputs_of(given: Given) -> list[str]:
     """What is read, and so is never replaced."""
-    return [given.case, *(files_at(given.follow) if given.follow else [])]
+    return [given.case, *(files_at(given.follow) if given.follow is not None else [])]
 
 
 def followed_schedule(given: Given, case: Case, tell: Tell) -> tuple[Made, str]:
@@ -90,7 +90,7 @@ def followed_schedule(given: Given, case: Case, tell: Tell) -> tuple[Made, str]:
         tell(f"{given.follow} has no on flags of {some(followed.guessed)}: off is taken where the power is 0")
     made = follow(case, followed, given.follow, solver_seconds(given))
     found = made.deviations
-    if given.deviations:
+    if given.deviations is not None:
         write_whole(given.deviations, table_text(found), inputs_of(given))
     told = in_words(found, given.follow, has_powers(followed, case))
     if unknown := strangers(followed, case):
@@ -113,7 +113,7 @@ def make(given: Given, limits: SearchLimits, tell: Tell) -> tuple[Made, Milliont
     before = sums_of_files([given.case])
     case = checked_case(hull, given.case)
     reached: Optional[str] = None
-    if given.follow:
+    if given.follow is not None:
         found, reached = followed_schedule(given, case, tell)
     else:
         found = searched_schedule(case, limits, tell)
@@ -128,13 +128,15 @@ def make(given: Given, limits: SearchLimits, tell: Tell) -> tuple[Made, Milliont
 
 def body(words: Sequence[str], tell: Tell) -> int:
     given = arguments(words)
-    if not given.follow and (given.tolerance is not None or given.deviations):
+    if given.follow is None and (given.tolerance is not None or given.deviations is not None):
         raise HullError("--tolerance and --deviations go with --follow")
+    if given.follow == "":  # (as of a variable of a shell that isn't set)
+        raise HullError("--follow needs the name of a file or a folder")
     need_scipy()
     refuse_twice([given.schedule, given.deviations])
     inputs = inputs_of(given)
     for output in (given.schedule, given.deviations):
-        if output:
+        if output is not None:
             try_output(output, inputs)
     found, cost, reached = make(given, search_limits(given), tell)
     tell(f"hull check accepts {given.schedule}: cost {money(cost)}; {reached}")
