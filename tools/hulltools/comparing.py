@@ -91,7 +91,8 @@ def statement_of(
         raise HullError(f"{name}: there is no column {missing[0]!r}")
     refuse_several(columns, [row for _, row in rows], name)
     if amount.endswith(OTHER_MONEY):
-        raise HullError(f"{name}: `{one_line(amount)}` is in millionths: `report.py csv --currency` writes the currency")
+        told = "is in millionths: `report.py csv --currency` writes the currency"
+        raise HullError(f"{name}: `{one_line(amount)}` {told}")
     found: Dict[str, Millionths] = {}
     for line, row in rows:
         for column in (it for it in columns if it != unit):

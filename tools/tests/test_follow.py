@@ -322,9 +322,10 @@ class Follow(unittest.TestCase):
         """As of a variable of a shell that isn't set; no search takes the place of what is to be followed."""
         other_forms.write_json(f"{self.room}/plan.json", self.megawatts())
         plan, case, made = (f"{self.room}/{it}.json" for it in ("plan", "case", "made"))
+        due_name = "a name is due, and an empty text is given\n"
         for words, due in (
-            ([case, made, "--follow", ""], "--follow needs the name of a file or a folder\n"),
-            ([case, made, "--follow", plan, "--deviations", ""], "Is a directory\n"),
+            ([case, made, "--follow", ""], f"--follow: {due_name}"),
+            ([case, made, "--follow", plan, "--deviations="], f"--deviations: {due_name}"),
             ([case, ""], "Is a directory\n"),
         ):
             status, _, said = run("make_schedule.py", *words, "--hull", PROGRAM, python=self.python)
@@ -458,7 +459,7 @@ class Follow(unittest.TestCase):
 
         other_forms.write_json(f"{self.room}/plan.json", self.megawatts(early))
         status, said = self.follow("plan.json")
-        told = "plan.json: its commitments can't be met in this case: thermal unit \"CCGT3\" is on in period 1, and has to stay off then"
+        told = 'its commitments can\'t be met in this case: thermal unit "CCGT3" is on in period 1, and has to stay off'
         self.assertEqual((status, told in said), (1, True), said)
 
     def test_an_impossible_case_names_the_unit(self) -> None:

@@ -70,6 +70,16 @@ class Ranges(unittest.TestCase):
             self.assertTrue(clock.price_number(9_999_999).is_finite())
         self.assertEqual(Clock(hours("0.25"), datetime(2026, 7, 1)).times(2)[1], "2026-07-01T00:15")
 
+    def test_an_empty_name_is_no_option_that_is_left_out(self) -> None:
+        """As of a variable of a shell that isn't set; of what is no name it may be meant."""
+        due = "a name is due, and an empty text is given\n"
+        options = {"make_schedule.py": ["--follow", "--hull"], "study.py": ["--schedule", "--zones", "--best-schedule"]}
+        for tool, names in {**options, "settle_zones.py": ["--to"]}.items():
+            for name in names:
+                files = FILES.get(tool, "co")
+                self.assertEqual(run(tool, *files, name, "")[::2], (1, f"{tool}: {name}: {due}"))
+        self.assertNotIn(due, run("study.py", CASE, "", "--currency", "")[2])
+
     def test_the_date_that_a_build_sets(self) -> None:
         for given in ("x", "-1", "1.5", "9" * 12, "9" * 5000):
             with mock.patch.dict(os.environ, SOURCE_DATE_EPOCH=given), self.assertRaisesRegex(HullError, "SOURCE_DATE"):

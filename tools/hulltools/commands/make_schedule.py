@@ -130,8 +130,6 @@ def body(words: Sequence[str], tell: Tell) -> int:
     given = arguments(words)
     if given.follow is None and (given.tolerance is not None or given.deviations is not None):
         raise HullError("--tolerance and --deviations go with --follow")
-    if given.follow == "":  # (as of a variable of a shell that isn't set)
-        raise HullError("--follow needs the name of a file or a folder")
     need_scipy()
     refuse_twice([given.schedule, given.deviations])
     inputs = inputs_of(given)

@@ -8,7 +8,7 @@ import re
 from datetime import datetime
 from fractions import Fraction
 from types import SimpleNamespace
-from typing import NoReturn, Optional, Type, TypeVar, Union
+from typing import Any, NoReturn, Optional, Type, TypeVar, Union
 
 from ..fast_start import FastStart
 from ..numbers import millionths
@@ -27,7 +27,17 @@ Range = TypeVar("Range", int, float)
 
 
 class Asker(argparse.ArgumentParser):
-    """A reader of words that repeats none of them as it is: a word may have what commands a terminal or turns text around."""
+    """A reader of words that repeats none of them as it is: a word may have what commands a terminal or turns text around.
+
+    An empty text in place of an option's name, as of a variable of a shell that isn't set, is refused: it isn't an option that is left out.
+    """
+
+    def parse_args(self, args: Any = None, namespace: Any = None) -> argparse.Namespace:  # type: ignore[override]
+        given: argparse.Namespace = super().parse_args(args, namespace)
+        for option in (it for it in self._actions if it.option_strings and it.default is None):
+            if getattr(given, option.dest, None) == "":
+                raise HullError(f"{option.option_strings[0]}: a name is due, and an empty text is given")
+        return given
 
     def error(self, message: str) -> NoReturn:
         super().error(one_line(message))
