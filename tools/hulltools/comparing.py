@@ -60,6 +60,9 @@ def key_of(cell: str, kind: str, known: Mapping[str, Sequence[str]], where: str)
     name = as_it_was(cell)
     if name not in known:
         name = as_it_was(cell.strip())
+    before, _, rest = name.partition(":")
+    if name not in known and list(known.get(rest, ())) == [before]:
+        name = rest  # (the kind stands before a name that one kind alone has)
     kinds, said = known.get(name, ()), kind.strip()
     if len(kinds) > 1 and not said:
         raise HullError(f"{where}: several kinds have a unit {one_line(name)!r}: write it as thermal:{one_line(name)}")

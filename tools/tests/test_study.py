@@ -406,6 +406,8 @@ class Compare(unittest.TestCase):
         due = {"thermal:A": 5 * MILLION, "bid:A": 7 * MILLION}
         for text in ("unit,amount\nthermal:A,5\nbid:A,7\n", "kind,unit,amount\nthermal,A,5\nbid,A,7\n"):
             self.assertEqual(statement_of("s", text, units), due)
+        for row, key in (("bid:B", "B"), ("thermal:B", "thermal:B"), ("bid:C", "bid:C")):
+            self.assertEqual(statement_of("s", f"unit,amount\n{row},9\n", units), {key: 9 * MILLION})
         with self.assertRaisesRegex(
             hulltools.HullError, "^s, line 2: several kinds have a unit 'A': write it as therm"
         ):
