@@ -407,7 +407,6 @@ class Contents(Workflow):
         self.assertEqual(read(f"{self.study}/days/wrong/report.txt"), before)
         self.assertEqual(self.calls(), ["audit days/right", "audit days/wrong"])
 
-
     def test_words_that_say_how_many_workers(self) -> None:
         self.days("one")
         self.ends_well(report_words="--proposals 2 --ahead 1 --workers 2")

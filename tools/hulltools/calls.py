@@ -398,7 +398,7 @@ def study(
                 with place_of.keeping():
                     write_results(found, place_of.room)
                 place_of.place(found.unfinished)
-        if found.interrupted:
-            raise found.interrupted
-        found.notes = list(map(in_a_call, found.notes))
-        return found
+    if found.interrupted:
+        raise found.interrupted
+    found.notes = list(map(in_a_call, found.notes))
+    return found

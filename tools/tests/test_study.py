@@ -230,7 +230,6 @@ class ForcedLosses(unittest.TestCase):
         self.assertRegex(page, r"NUCLEAR\|+thermal\|+must_run\|+300\.00\|")
         self.assertRegex(page, r"NUCLEAR\|+renewable\|+least power\|+20\.00\|")
 
-
     def test_the_state_before_period_1_is_told_beside_a_commitment(self):
         unit = hulltools.read_case(f"{FOLDER}/case.json").unit("thermal", "NUCLEAR")
         unit.stop_limit, unit.power0, state = unit.most, unit.least, "state before period 1"

@@ -8,6 +8,7 @@ import tempfile
 import unittest
 import warnings
 import zoneinfo
+from dataclasses import replace
 from datetime import datetime
 from unittest import mock
 
@@ -285,7 +286,9 @@ class Set(unittest.TestCase):
             with self.assertRaisesRegex(hulltools.HullError, due):
                 as_followed(changed, self.case)
         both = frame.merge(frame[["unit", "period", "on"]], on=["unit", "period"], suffixes=("", "_y"))
-        self.assertEqual(as_followed(both, self.case), as_followed(frame, self.case))
+        merged, name = as_followed(both, self.case)
+        self.assertEqual(merged.skipped, ["on_y"])
+        self.assertEqual((replace(merged, skipped=[]), name), as_followed(frame, self.case))
 
     def test_options_of_a_study_may_be_arrays_and_flags_of_numpy(self):
         options = {"skip": numpy.array(["elmp", "lmp"]), "fast_start": pandas.Index(["G1"])}

@@ -251,7 +251,9 @@ class Network:
             return
         if self.value(name, "sign") not in (None, 1):
             text = self.generators[name]["sign"].strip()
-            what = f'generator "{name}", sign: 1 is due, and {text} is found: p_nom and costs are of another unit or way'
+            what = (
+                f'generator "{name}", sign: 1 is due, and {text} is found: p_nom and costs are of another unit or way'
+            )
             raise HullError(one_line(what))
         if self.flag(name, "p_nom_extendable"):
             self.notes.left_out("that a capacity may be extended: p_nom is taken", name)
