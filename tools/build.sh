@@ -3,7 +3,7 @@
 #
 # One build goes on at a time: it holds the lock of $out. It copies the program's crates, without must-fail edits, into a folder $room, has
 # `rt ci` work there, puts the program in its place as $built, and notes what it is made of. All that `rt ci` says stands in $log. What it has
-# proved it keeps beside the kit: for the next build, if this one is ended, and for the gate.
+# proved some kits keep beside them: for the next build, if this one is ended, and for the gate.
 #
 # Set while it goes on: $lock and $held, the descriptors of the locks; $room; $prover, the process that is `rt ci`; $taken, what the sources
 # were at the start. $failed tells whoever waited for the lock how it ended, where it ended badly.

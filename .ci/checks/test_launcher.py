@@ -498,6 +498,16 @@ class Gate(Repository):
         self.write("CHANGELOG.md", "## 1.2.4\n")
         self.assertEqual(self.gate(), refused)
 
+    def test_another_kit_confirms_dist_where_it_builds_the_same_bytes(self):
+        self.gate_and_ship()
+        self.write("../a kit/KIT-ID", "another kit\n")
+        status, output, _ = self.call(".ci/run")
+        told = f"ship.sh: dist was made by '{KIT}', and 'another kit' builds the same bytes"
+        self.assertEqual((status, output.decode().splitlines()[-2:]), (0, [told, "the checks"]))
+        self.assertIn(b"names another kit than the program's", self.call("tools/ship.sh")[2])
+        self.write("dist/linux-x86_64/hull", "other")
+        self.assertEqual(self.gate()[0], 1)
+
     def test_ship_takes_a_program_of_what_is_there_alone(self):
         said = self.call("tools/ship.sh")
         self.assertEqual(said[:2], (1, b""))
