@@ -15,7 +15,12 @@ LARGEST = 10**15
 AMOUNT = re.compile(r"[+-]?(?:[1-9][0-9]{0,2}(?:,[0-9]{3})+|[0-9]*)(?:\.[0-9]*)?(?:[eE][+-]?[0-9]{1,3})?")
 
 # Tables of this package with rows of several texts: columns that they have, and how many of these say which text it is.
-OF_TEXTS = ((["list", "kind", "unit"], 1), (["report", "side", "kind", "name"], 2))
+# (the workflow's table of all days is one of them)
+OF_TEXTS = (
+    (["day", "list", "kind", "unit"], 2),
+    (["list", "kind", "unit"], 1),
+    (["report", "side", "kind", "name"], 2),
+)
 OTHER_MONEY = "_millionths"  # as the columns of our tables end that aren't in the currency
 
 
@@ -100,6 +105,10 @@ def statement_of(
     for line, row in rows:
         for column in (it for it in columns if it != unit):
             refuse_line_end(row[column], f"{name}, line {line}")
+        if not row[unit].strip() and row[unit] not in known:
+            raise HullError(
+                f"{name}, line {line}: no unit stands in it: a statement has rows of units, and none of sums"
+            )
         key = key_of(row[unit], row.get("kind", ""), known, f"{name}, line {line}")
         found[key] = Millionths(found.get(key, 0) + amount_of(row[amount], f"{name}, line {line}"))
     return found

@@ -391,6 +391,17 @@ class Compare(unittest.TestCase):
         due = "`payment_millionths` is in millionths: `report.py csv --currency` writes the currency\n"
         self.assertEqual((status, said[-len(due) :]), (1, due), said)
 
+    def test_the_table_of_many_days_is_taken_by_the_units_of_one_day_and_list(self):
+        """Days would be added up, and the sums of a day and list be those of a unit without a name."""
+        head, words = "day,list,kind,unit,payments_currency\n", ("--amount", "payments_currency")
+        sums, row = "1 July,lmp,day,,650\n", "{0},lmp,thermal,PEAKER,500\n{0},lmp,bid,STEEL,150\n"
+        due = "it has rows of 1 July lmp and of 2 July lmp, and those of one alone are a statement\n"
+        self.assertIn(due, self.compare(head + row.format("1 July") + row.format("2 July"), *words)[2])
+        status, _, said = self.compare(head + sums + row.format("1 July"), *words)
+        due = "line 2: no unit stands in it: a statement has rows of units, and none of sums\n"
+        self.assertEqual((status, said[-len(due) :]), (1, due), said)
+        self.assertEqual(self.compare(head + row.format("1 July"), *words)[0], 0)
+
     def test_differences_are_sorted(self):
         status, text, said = self.compare(
             'name,paid\nPEAKER,"1,000"\nPEAKER,-400\nGAS,20\n', "--unit", "name", "--amount", "paid"
