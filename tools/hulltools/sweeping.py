@@ -15,8 +15,8 @@ from .errors import HullError, one_line
 from .tables import as_it_was, told_apart
 
 COLOURS = ("#1763c7", "#5b6570", "#b85c00", "#7a3fb0", "#b3261e", "#2c7a4b")
-WIDTH, LEFT, BAR, GAP, TOP = 760, 190, 11, 14, 46
-
+WIDTH, LEFT, BAR, GAP, LINE, TOP = 760, 190, 11, 14, 18, 38
+LETTER, MOST_SHOWN = 7, 26  # how wide a letter is, and how many letters stand beside the bars
 
 MOST_BYTES = 80  # of a part of a folder's name
 
@@ -101,55 +101,94 @@ def joined(tables: Dict[str, str]) -> str:
     return into.getvalue()
 
 
-def uplifts(text: str) -> List[Tuple[str, str, float]]:
-    """Scenario, list, and the gap without the schedule's part."""
+@dataclass(frozen=True)
+class Bar:
+    """A scenario, a list, and the gap without the schedule's part."""
+
+    scenario: str
+    list: str
+    gap: float
+
+
+def uplifts(text: str) -> List[Bar]:
+    """The bars of a sweep's table, in its order."""
     found = []
     for row in csv.DictReader(io.StringIO(text), strict=True):
         parts = [it for key, it in row.items() if key.startswith(("gap_duality", "gap_prices"))]
-        found.append((as_it_was(row["scenario"]), row["list"], sum(float(it or 0) for it in parts)))
+        found.append(Bar(as_it_was(row["scenario"]), as_it_was(row["list"]), sum(float(it or 0) for it in parts)))
     return found
 
 
-def bar_of(x: Callable[[float], float], y: float, place: int, name: str, number: float) -> str:
-    told = html.escape(one_line(f"{name}: {number:,.2f}"))
+def knows_schedules(text: str) -> bool:
+    """Whether the schedule's part is known of each row of the table: without it a gap has it still."""
+    rows = csv.DictReader(io.StringIO(text), strict=True)
+    return all(it for row in rows for key, it in row.items() if key.startswith("gap_schedule"))
+
+
+def fill_of(place: int) -> str:
+    """The colour of a list by its place; further lists have the colours anew, paler and with an edge."""
     colour = COLOURS[place % len(COLOURS)]
-    return (
-        f'<rect x="{LEFT}" y="{y}" width="{max(x(number) - LEFT, 0.5):.1f}" height="{BAR - 2}" fill="{colour}"><title>{told}</title></rect>'
-        f'<text x="{x(number) + 4:.1f}" y="{y + BAR - 3}" class="small">{number:,.0f}</text>'
-    )
+    paler = f' fill-opacity="0.3" stroke="{colour}"' if place >= len(COLOURS) else ""
+    return f'fill="{colour}"{paler}'
+
+
+def shortened(name: str) -> str:
+    """A name as long as there is room for, without its middle: what changes stands at the end."""
+    name, half = one_line(name), MOST_SHOWN // 2
+    return name if len(name) <= MOST_SHOWN else f"{name[:half]}…{name[1 - half:]}"
+
+
+def keys_of(lists: List[str]) -> Tuple[str, int]:
+    """The names of the lists with their colours, in as many lines as they take, and where the last of these ends."""
+    found, x, y = [], 8, 8
+    for place, name in enumerate(map(one_line, lists)):
+        width = 30 + LETTER * len(name)
+        if x > 8 and x + width > WIDTH:
+            x, y = 8, y + LINE
+        found.append(f'<rect x="{x}" y="{y}" width="10" height="10" {fill_of(place)}/>')
+        found.append(f'<text x="{x + 14}" y="{y + 9}">{html.escape(name)}</text>')
+        x += width
+    return "".join(found), y
+
+
+def bars_of(bars: List[Bar], lists: List[str], y: float, x: Callable[[float], float]) -> str:
+    """The bars of one scenario from a height on, with its name beside them."""
+    name, middle = html.escape(shortened(bars[0].scenario)), y + len(bars) * BAR / 2 + 4
+    whole = html.escape(one_line(bars[0].scenario))
+    found = [f'<text x="{LEFT - 8}" y="{middle}" text-anchor="end">{name}<title>{whole}</title></text>']
+    for at, it in enumerate(bars):
+        top, told = y + at * BAR, html.escape(one_line(f"{it.list}: {it.gap:,.2f}"))
+        found.append(
+            f'<rect x="{LEFT}" y="{top}" width="{max(x(it.gap) - LEFT, 0.5):.1f}" height="{BAR - 2}" {fill_of(lists.index(it.list))}><title>{told}</title></rect>'
+            f'<text x="{x(it.gap) + 4:.1f}" y="{top + BAR - 3}" class="small">{it.gap:,.0f}</text>'
+        )
+    return "".join(found)
 
 
 def picture_of_sweep(text: str) -> str:
     """The gap without the schedule's part of each scenario and list, as an SVG file."""
     rows = uplifts(text)
-    lists, scenarios = list(dict.fromkeys(it[1] for it in rows)), list(dict.fromkeys(it[0] for it in rows))
-    most = max([1.0, *(number for _, _, number in rows)])
+    lists, scenarios = list(dict.fromkeys(it.list for it in rows)), list(dict.fromkeys(it.scenario for it in rows))
+    most = max([1.0, *(it.gap for it in rows)])
 
     def x(number: float) -> float:
         return LEFT + number / most * (WIDTH - LEFT - 80)
 
-    y, parts = float(TOP), []
+    keys, above = keys_of(lists)
+    top = y = float(above + TOP)
+    parts = []
     for scenario in scenarios:
-        own = [(name, number) for it, name, number in rows if it == scenario]
-        parts.append(
-            f'<text x="{LEFT - 8}" y="{y + len(own) * BAR / 2 + 4}" text-anchor="end">{html.escape(one_line(scenario))}</text>'
-        )
-        for name, number in own:
-            parts.append(bar_of(x, y, lists.index(name), name, number))
-            y += BAR
-        y += GAP
+        own = [it for it in rows if it.scenario == scenario]
+        parts.append(bars_of(own, lists, y, x))
+        y += len(own) * BAR + GAP
     grid = "".join(
-        f'<line x1="{x(at):.1f}" x2="{x(at):.1f}" y1="{TOP - 6}" y2="{y - GAP + 4}" stroke="#8886"/>'
+        f'<line x1="{x(at):.1f}" x2="{x(at):.1f}" y1="{top - 6}" y2="{y - GAP + 4}" stroke="#8886"/>'
         for at in ticks(0, most)
     )
-    keys, place = [], 8.0
-    for i, name in enumerate(lists):
-        keys.append(f'<rect x="{place}" y="8" width="10" height="10" fill="{COLOURS[i % len(COLOURS)]}"/>')
-        keys.append(f'<text x="{place + 14}" y="17">{html.escape(one_line(name))}</text>')
-        place += 30 + 7 * len(name)
     style = "text { font: 12px sans-serif; fill: #1b1f24; } .small { font-size: 10px; }"
-    title = "Gap at the best schedule known, by scenario and price list"
+    what = "Gap at the best schedule known" if knows_schedules(text) else "Gap"
+    title = f"{what}, by scenario and price list"
     return (
         f'<svg xmlns="http://www.w3.org/2000/svg" viewBox="0 0 {WIDTH} {y:.0f}" width="{WIDTH}" height="{y:.0f}"><title>{title}</title>'
-        f'<style>{style}</style><rect width="100%" height="100%" fill="#fff"/>{"".join(keys)}{grid}{"".join(parts)}</svg>\n'
+        f'<style>{style}</style><rect width="100%" height="100%" fill="#fff"/>{keys}{grid}{"".join(parts)}</svg>\n'
     )

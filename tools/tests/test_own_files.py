@@ -6,6 +6,7 @@ import fcntl
 import hashlib
 import json
 import os
+import re
 import shutil
 import signal
 import subprocess
@@ -21,7 +22,9 @@ from hulltools import done_marks, errors, studies, study_folder
 from hulltools.commands import study as study_command
 from hulltools.errors import HullError
 from hulltools.study_folder import HEAD, LOCK, MARK, ROOM, SUMS, StudyFolder
-from hulltools.sweeping import joined, scenarios_of, uplifts
+from hulltools.price_lists import LISTS
+from hulltools.sweeping import WIDTH, Bar, joined, picture_of_sweep, scenarios_of, uplifts
+from hulltools.tables import told_apart
 
 CASE, SCHEDULE = f"{EXAMPLES}/usual/case.json", f"{EXAMPLES}/usual/schedule.json"
 REPORT = f"{EXAMPLES}/usual/price.output"
@@ -387,7 +390,26 @@ class Sweeps(InFolder):
         for name, marked in (("offer G1;=A1 +1%", "offer G1;'=A1 +1%"), ("offer G1 +1%", "offer G1 +1%")):
             text = joined({name: "list,gap_duality\nLMP,1\n"})
             self.assertEqual(text, f"scenario,list,gap_duality\r\n{marked},LMP,1\r\n")
-            self.assertEqual(uplifts(text), [(name, "LMP", 1.0)])
+            self.assertEqual(uplifts(text), [Bar(name, "LMP", 1.0)])
+        self.assertEqual(uplifts("scenario,list,gap_duality\r\nbase,'-5,1\r\n"), [Bar("base", "-5", 1.0)])
+
+    def test_each_list_of_the_picture_has_a_key_of_its_own_within_it(self) -> None:
+        lists = [*(it.name for it in LISTS), "Posted by the market", "Posted a day later", "=A"]
+        name = "offer Kraftwerk am Neckar, Block 9 +5%"
+        rows = "".join(f'{scenario},"{told_apart(it)}",,1,2\n' for scenario in ("base", f'"{name}"') for it in lists)
+        picture = picture_of_sweep(f"scenario,list,gap_schedule,gap_duality,gap_prices\n{rows}")
+        keys = re.findall(r'<rect x="(\d+)" y="(\d+)" width="10" height="10" ([^/]*)/><text[^>]*>([^<]*)', picture)
+        self.assertEqual([it[3] for it in keys], lists)
+        self.assertEqual(len({it[2] for it in keys}), len(lists))
+        self.assertEqual(len({it[:2] for it in keys}), len(lists))
+        self.assertLess(max(int(x) + 14 + 7 * len(told) for x, _, _, told in keys), WIDTH)
+        self.assertLess(
+            max(int(it[1]) for it in keys) + 10, min(map(float, re.findall(r'x="190" y="([^"]*)', picture)))
+        )
+        self.assertIn(f">offer Kraftwe… Block 9 +5%<title>{name}</title>", picture)
+        self.assertIn("<title>Gap, by scenario and price list</title>", picture)
+        known = picture_of_sweep("scenario,list,gap_schedule,gap_duality,gap_prices\nbase,LMP,0,1,2\n")
+        self.assertIn("<title>Gap at the best schedule known, by scenario and price list</title>", known)
 
 
 class Words(Room):
