@@ -149,7 +149,8 @@ def of_the_schedule(study: Study, rule: str) -> str:
         return ""
     if rule != "full":
         return "<p>The parts of the gap aren't parts of these payments: a study of the better schedule says what they would be.</p>"
-    return f"<p>Of payments and surplus reserve under each list {money(part)} is the schedule's part.</p>"
+    but = " but zonal prices, which have no such part," if study.zonal else ""
+    return f"<p>Of payments and surplus reserve under each list{but} {money(part)} is the schedule's part.</p>"
 
 
 def consumers_part(study: Study) -> str:

@@ -413,6 +413,9 @@ class Study(unittest.TestCase):
         self.assertEqual({row["unit"]: float(row["payment_currency"]) for row in rows}, due)
         self.assertEqual([row["list"] for row in self.rows("table.csv")], list(self.LISTS))
         self.assertIn("Zonal prices have payments by unit alone.", self.read("study.html"))
+        self.study("--best-schedule", f"{self.FOLDER}/best.schedule.json", "--zones", zones)
+        due = "under each list but zonal prices, which have no such part, 400.00 is the schedule's part."
+        self.assertIn(due, self.read("study.html"))
 
     def test_where_it_came_from(self):
         with mock.patch.dict(os.environ, SOURCE_DATE_EPOCH="1782864000"):
