@@ -601,6 +601,7 @@ class Lists(Workflow):
         page = read(self.result("page.html")).decode()
         for due in ("<svg", "certified least", "3 days are wanted, and 3 have prices. Certified are 3, audited are 3."):
             self.assertIn(due, page)
+        self.assertIn("No whole prices within the limits of prices have one below the certified least.", page)
 
     def test_a_list_whose_prices_were_cut_is_left(self) -> None:
         """Of examples/usual without wind, and with G1 at 20,000.00 per MW, twice the limit."""

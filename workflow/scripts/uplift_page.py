@@ -119,7 +119,7 @@ def day_table(summary: "Summary") -> str:
         cells += f'<td class="text">{schedules[day]}</td>'
         rows.append(f'<tr><td class="text"><bdi>{html.escape(day)}</bdi></td>{cells}</tr>')
     about = (
-        "Uplift of each list: payments plus surplus. No prices have one below the certified least. "
+        "Uplift of each list: payments plus surplus. No whole prices within the limits of prices have one below the certified least. "
         "A schedule is the day's own (given), or was made here."
     )
     return table("Uplift by day", about, ("*Day", *lists, "Certified least", "*Report audited", "*Schedule"), rows)
