@@ -27,7 +27,10 @@ class Chart:
         self.low, self.high = low - room * (low != 0), high + room
         self.first, self.last = first, max(last, first + 1)
         self.parts = [f'<svg viewBox="0 0 {WIDTH} {HEIGHT}" role="img" aria-label="{html.escape(one_line(title))}">']
-        for at in ticks(self.low, self.high):
+        levels = ticks(self.low, self.high)
+        # (as few digits as tell the levels apart, which may be near each other and far from 0)
+        self.digits = next((it for it in range(6, 16) if len({f"{at:.{it}g}" for at in levels}) == len(levels)), 16)
+        for at in levels:
             y = self.y(at)
             self.parts.append(
                 f'<line class="grid" x1="{LEFT}" x2="{WIDTH - RIGHT}" y1="{y:.1f}" y2="{y:.1f}"/>'
@@ -44,7 +47,7 @@ class Chart:
         most = max(abs(self.low), abs(self.high))
         sizes = ((1e9, " bn"), (1e6, " M"), (1e3, " k"))
         unit, name = next((it for it in sizes if most >= 10 * it[0] or most >= it[0] >= 1e6), (1, ""))
-        return f"{number / unit:.6g}{name if number else ''}"
+        return f"{number / unit:.{self.digits}g}{name if number else ''}"
 
     def label_x(self, text: object, at: float) -> None:
         self.parts.append(f'<text x="{self.x(at):.1f}" y="{HEIGHT - 30}" text-anchor="middle">{text}</text>')

@@ -5,7 +5,7 @@ from collections.abc import Iterable, Iterator, Sequence
 from typing import Optional
 
 from .charts import Chart, steps_chart
-from .numbers import Kilowatts, decimal_text, money
+from .numbers import Kilowatts, decimal_text, money, per_mwh
 from .errors import HullError, one_line
 from .outputs import RADIUS, AnyPriced, Certificate, Convex, Owed, Report
 from .schedules import Schedule
@@ -248,12 +248,12 @@ def nearness(priced: AnyPriced, certificate: Optional[Certificate], is_own: bool
     is_local = certificate.radius < RADIUS[1]
     least, distance = money(certificate.least), money(certificate.distance)
     if is_own:
-        within = f" within {money(certificate.radius * 1000)} per MW and period of these" if is_local else ""
+        within = f" within {per_mwh(certificate.radius)} per MW and period of these" if is_local else ""
         return (
             f"No whole prices within the limits{within and f' and{within}'} need less than {least} of payments and surplus for this schedule; these need "
             f"{gap}, and their dual value is within {distance} of the greatest{' there' * is_local}."
         )
-    within = f" and within {money(certificate.radius * 1000)} per MW and period of its prices" if is_local else ""
+    within = f" and within {per_mwh(certificate.radius)} per MW and period of its prices" if is_local else ""
     return (
         f"Payments and surplus are {gap} together. A certificate with the same sums is given. It holds neither case nor prices, so this page can't tell "
         f"whether it is of these: --mixture can. By it no whole prices within the limits{within} need less than {least} for its schedule, and the dual "

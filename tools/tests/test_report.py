@@ -3,6 +3,7 @@ import csv
 import io
 import json
 import os
+import re
 import shutil
 import sys
 import tempfile
@@ -12,6 +13,7 @@ from unittest import mock
 
 from tool import EXAMPLES, PROGRAM, python_with, run
 
+from hulltools.charts import Chart
 from hulltools.errors import read_bytes
 
 ODD = """hull-report 1
@@ -186,8 +188,15 @@ class Report(unittest.TestCase):
         said, page = self.certified()
         self.assertEqual(said, "")
         self.assertIn("this page can't tell whether it is of these: --mixture can", page)
-        self.assertIn("and within 1.00 per MW and period of its prices need less than 127.00 for its schedule", page)
+        self.assertIn("and within 1.000 per MW and period of its prices need less than 127.00 for its schedule", page)
         self.assertNotIn("these need 164.00", page)
+
+    def test_levels_of_a_picture_that_are_near_each_other_are_told_apart(self):
+        """Values near 23.4 million that are less than 100 apart."""
+        for low, high in ((23434565.25, 23434590.5), (-23434565.25, -23434565.2), (0, 90)):
+            told = re.findall(r'text-anchor="end">([^<]*)', Chart("Values", low, high, 1, 2).svg())
+            self.assertEqual(len(told), len(set(told)), told)
+        self.assertEqual(told[:3], ["0", "20", "40"])
 
     def test_a_certificate_of_other_sums_is_refused(self):
         other = CERTIFIED.replace("payments 164", "payments 163").replace("surplus 0", "surplus 1000000")
