@@ -30,3 +30,9 @@ class FastStart:
         if wrong is not None:
             raise HullError(f'the case has no thermal unit "{one_line(wrong)}"')
         return [unit for unit in case.thermal if self.has(unit)]
+
+
+def names_told(units: List[Thermal]) -> str:
+    """The names of units with commas between; one that has a comma or a double quote itself stands as --fast-start takes it."""
+    quoted = {unit.name: unit.name.replace('"', '""') for unit in units}
+    return one_line(", ".join(f'"{told}"' if "," in name or told != name else name for name, told in quoted.items()))

@@ -34,7 +34,7 @@ from .prices import Prices
 from .program import MOST_WORK, Hull
 from .progress import step
 from .provenance import Provenance
-from .fast_start import FastStart
+from .fast_start import FastStart, names_told
 from .relaxation import fast_start_prices, held_prices, relaxed_prices
 from .schedules import Schedule
 from .search_limits import SECONDS
@@ -240,9 +240,9 @@ class Maker:
 
     def add_fast_start(self) -> None:
         study, wanted = self.study, self.study.wanted
-        names = [unit.name for unit in wanted.fast.units(study.case)]
-        if names:
-            of_units = replace(ELMP, about=f"{ELMP.about}. Fast-start: {one_line(', '.join(names))}")
+        units = wanted.fast.units(study.case)
+        if units:
+            of_units = replace(ELMP, about=f"{ELMP.about}. Fast-start: {names_told(units)}")
             self.add(of_units, fast_start_prices(study.case, study.schedule, wanted.fast, wanted.seconds))
         else:
             study.notes.append("No unit is fast-start by the rule given, so there is no list ELMP: it would be LMP.")

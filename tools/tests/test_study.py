@@ -6,6 +6,7 @@ import os
 import re
 import tempfile
 import unittest
+from dataclasses import replace
 from datetime import datetime
 from decimal import Decimal
 from fractions import Fraction
@@ -22,6 +23,7 @@ from hulltools.commands.words import add_fast_start, fast_start
 from hulltools.comparing import differences, statement_of
 from hulltools.day_lengths import changed_day, clock_change
 from hulltools.costs import Costs
+from hulltools.fast_start import names_told
 from hulltools.gap_parts import gap_parts
 from hulltools.price_lists import LMP
 from hulltools.settlement_rules import bill, forced_losses, paid_by_kind, reason_of_loss
@@ -169,6 +171,13 @@ class FastUnits(unittest.TestCase):
         self.assertEqual(fast_start(ask.parse_args(["--fast-start-up", "3"])).most_up, 3)
         with self.assertRaisesRegex(hulltools.HullError, "^--fast-start is given, and --fast-start-up"):
             fast_start(ask.parse_args(["--fast-start", "A", "--fast-start-up", "3"]))
+
+    def test_fast_start_units_are_told_as_they_are_named(self):
+        """A name with a comma isn't taken for two."""
+        units = [
+            replace(hulltools.read_case(f"{FOLDER}/case.json").thermal[0], name=it) for it in ("A", "B, old", '"C"')
+        ]
+        self.assertEqual(names_told(units), 'A, "B, old", """C"""')
 
 
 class Money(unittest.TestCase):

@@ -26,7 +26,8 @@ from collections.abc import Sequence
 from typing import Optional
 
 from ..cases import read_case
-from ..errors import HullError, Tell, one_line, run_tool, try_output
+from ..errors import HullError, Tell, run_tool, try_output
+from ..fast_start import names_told
 from ..kept_work import write_found
 from ..linear import need_scipy
 from ..program import Hull
@@ -47,12 +48,12 @@ def body(words: Sequence[str], tell: Tell) -> int:
     try_output(given.prices, inputs)
     Hull(given.hull, tell, given.seconds).check(given.case, given.schedule)
     case, fast = read_case(given.case), fast_start(given)
-    names = [unit.name for unit in fast.units(case)]
-    if not names:
+    units = fast.units(case)
+    if not units:
         raise HullError("no unit is fast-start by the rule given: these prices would be LMPs")
     prices = fast_start_prices(case, read_schedule(given.schedule, case), fast, solver_seconds(given))
     write_found({given.prices: prices.text()}, inputs)
-    tell(f"fast-start: {one_line(', '.join(names))}")
+    tell(f"fast-start: {names_told(units)}")
     return status_of(prices, tell)
 
 
