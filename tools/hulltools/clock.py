@@ -4,7 +4,7 @@ from dataclasses import dataclass
 from datetime import datetime, timedelta
 from decimal import Decimal
 from fractions import Fraction
-from typing import List, Optional
+from typing import List, Optional, Union
 
 from .day_lengths import changed_day, in_parts, length_on_change
 from .errors import HullError
@@ -28,16 +28,16 @@ class Clock:
         """The end of a head of prices in a table."""
         return "per_mwh" if self.hours else "per_mw"
 
-    def price(self, millionths: int) -> Fraction:
+    def price(self, millionths: Union[int, Fraction]) -> Fraction:
         """A price in millionths per kilowatt and period as the currency per MWh, or per MW and period."""
-        return Fraction(millionths, THOUSANDTHS) / (self.hours or 1)
+        return Fraction(millionths) / THOUSANDTHS / (self.hours or 1)
 
     def price_text(self, millionths: int) -> str:
         """The price for people."""
         return f"{float(self.price(millionths)):,.3f}"
 
-    def price_number(self, millionths: int) -> Decimal:
-        """The price for a table: exact, or to a billionth where the length of a period is no decimal fraction of an hour."""
+    def price_number(self, millionths: Union[int, Fraction]) -> Decimal:
+        """The price for a table: exact, or to a billionth where a mean or a price per MWh has more digits."""
         exact = self.price(millionths)
         return (Decimal(exact.numerator) / exact.denominator).quantize(Decimal("1e-9")).normalize() + Decimal(0)
 

@@ -1,4 +1,5 @@
 """The tables of a study: a row for each list, for each list and unit, and for each list and period."""
+from fractions import Fraction
 from typing import TYPE_CHECKING, Dict, List, Optional, Tuple
 
 from .cash_flows import KINDS, UnitFlows, total, uplift_by_period
@@ -58,7 +59,7 @@ def lists_table(study: "Study", with_keys: bool = False) -> Table:
     for settled in study.in_order():
         row = settled.settlement.best
         price = study.clock.price_number
-        means = [price(round(sum(numbers) / len(numbers))) for numbers in (row.energy, row.reserve)]
+        means = [price(Fraction(sum(numbers), len(numbers))) for numbers in (row.energy, row.reserve)]
         cells = (means[0], price(max(row.energy)), means[1])
         names = names_of(settled.list, with_keys)
         table.add(*names, settled.list.about, *sums_of(study, settled), *cells, *origin.values())

@@ -88,6 +88,8 @@ class Clocks(unittest.TestCase):
         """7.50 per MW and quarter of an hour are 30.00 per MWh."""
         clock = Clock(Fraction("0.25"), datetime(2026, 7, 1, 23, 30))
         self.assertEqual((clock.price_text(7500), clock.price_number(7500)), ("30.000", Decimal(30)))
+        # (a mean is of all digits: rounded before, it would be 30.000 or 30.004)
+        self.assertEqual(clock.price_number(Fraction(15_001, 2)), Decimal("30.002"))
         self.assertEqual(clock.times(3), ["2026-07-01T23:30", "2026-07-01T23:45", "2026-07-02T00:00"])
         self.assertEqual(clock.labels(3), ["23:30", "23:45", "00:00"])
         clock = Clock(Fraction(1, 120), datetime.fromisoformat("2026-07-01T23:59:30+02:00"))
@@ -174,9 +176,8 @@ class FastUnits(unittest.TestCase):
 
     def test_fast_start_units_are_told_as_they_are_named(self):
         """A name with a comma isn't taken for two."""
-        units = [
-            replace(hulltools.read_case(f"{FOLDER}/case.json").thermal[0], name=it) for it in ("A", "B, old", '"C"')
-        ]
+        first = hulltools.read_case(f"{FOLDER}/case.json").thermal[0]
+        units = [replace(first, name=it) for it in ("A", "B, old", '"C"')]
         self.assertEqual(names_told(units), 'A, "B, old", """C"""')
 
 
