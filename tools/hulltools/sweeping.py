@@ -156,11 +156,11 @@ def bars_of(bars: List[Bar], lists: List[str], y: float, x: Callable[[float], fl
     name, middle = html.escape(shortened(bars[0].scenario)), y + len(bars) * BAR / 2 + 4
     whole = html.escape(one_line(bars[0].scenario))
     found = [f'<text x="{LEFT - 8}" y="{middle}" text-anchor="end">{name}<title>{whole}</title></text>']
-    for at, it in enumerate(bars):
-        top, told = y + at * BAR, html.escape(one_line(f"{it.list}: {it.gap:,.2f}"))
+    for place, bar in enumerate(bars):
+        top, told = y + place * BAR, html.escape(one_line(f"{bar.list}: {bar.gap:,.2f}"))
         found.append(
-            f'<rect x="{LEFT}" y="{top}" width="{max(x(it.gap) - LEFT, 0.5):.1f}" height="{BAR - 2}" {fill_of(lists.index(it.list))}><title>{told}</title></rect>'
-            f'<text x="{x(it.gap) + 4:.1f}" y="{top + BAR - 3}" class="small">{it.gap:,.0f}</text>'
+            f'<rect x="{LEFT}" y="{top}" width="{max(x(bar.gap) - LEFT, 0.5):.1f}" height="{BAR - 2}" {fill_of(lists.index(bar.list))}><title>{told}</title></rect>'
+            f'<text x="{x(bar.gap) + 4:.1f}" y="{top + BAR - 3}" class="small">{bar.gap:,.0f}</text>'
         )
     return "".join(found)
 

@@ -403,9 +403,8 @@ class Sweeps(InFolder):
         self.assertEqual(len({it[2] for it in keys}), len(lists))
         self.assertEqual(len({it[:2] for it in keys}), len(lists))
         self.assertLess(max(int(x) + 14 + 7 * len(told) for x, _, _, told in keys), WIDTH)
-        self.assertLess(
-            max(int(it[1]) for it in keys) + 10, min(map(float, re.findall(r'x="190" y="([^"]*)', picture)))
-        )
+        first_bar = min(map(float, re.findall(r'x="190" y="([^"]*)', picture)))
+        self.assertLess(max(int(it[1]) for it in keys) + 10, first_bar)
         self.assertIn(f">offer Kraftwe… Block 9 +5%<title>{name}</title>", picture)
         self.assertIn("<title>Gap, by scenario and price list</title>", picture)
         known = picture_of_sweep("scenario,list,gap_schedule,gap_duality,gap_prices\nbase,LMP,0,1,2\n")
