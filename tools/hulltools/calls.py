@@ -369,7 +369,7 @@ def study(
     """
     need_scipy()
     said = in_words_of_a_call(tell)
-    from .commands.study import inputs_of, study_of, write_results
+    from .commands.study import inputs_of, need_lists, study_of, write_study
     from .study_folder import StudyFolder
 
     with contextlib.ExitStack() as until_done:
@@ -394,9 +394,10 @@ def study(
         program = Hull(hull, tell, asked.seconds)
         with told_to(tell), told_of_a_call(), room.told(), StudyFolder(to, inputs_of(asked)) as place_of:
             found = study_of(asked, words, program, place_of.room, said, place_of.refuse)
-            if folder is not None:
-                with place_of.keeping():
-                    write_results(found, place_of.room)
+            if folder is None:
+                need_lists(found)
+            else:
+                write_study(found, place_of, said)
                 place_of.place(found.unfinished)
     if found.interrupted:
         raise found.interrupted

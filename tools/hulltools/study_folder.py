@@ -305,13 +305,17 @@ class StudyFolder:
         with self.keeping(), self.locked():
             self.place_all(unfinished)
 
+    def has_work(self) -> bool:
+        """Whether something was made in the room."""
+        return set(os.listdir(self.room)) > {OWN}
+
     @contextlib.contextmanager
     def keeping(self) -> Iterator[None]:
         """Keeps the room, with what was made in it, where what is done within can't be done; the error says where it is."""
         try:
             yield
         except (HullError, OSError) as why:
-            if not (self.is_begun or isinstance(why, Kept)):
+            if not (self.is_begun or isinstance(why, Kept)) or not self.has_work():
                 raise
             told = (
                 why.line if isinstance(why, HullError) else f"{one_line(why.filename or self.folder)}: {why.strerror}"

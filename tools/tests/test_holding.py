@@ -421,6 +421,33 @@ class Studies(Room):
         self.assertEqual(ran.returncode, -signal.SIGINT)
         self.assertEqual({name: read(f"{self.room}/st/{name}") for name in self.names()}, before)
 
+    def kept_room(self, said: str) -> List[str]:
+        """What is in the folder that a line names, in which the study left what it had made; a case and its schedule fit."""
+        room = said.rsplit("what was made is in ", 1)[1].splitlines()[0]
+        self.assertTrue(room.startswith(f"{self.room}/st/{ROOM}"), said)
+        self.assertEqual(self.names(), [os.path.basename(room)])
+        words = [PROGRAM, "check", "--case", f"{DEAR}/case.json", "--schedule", f"{room}/schedule.json"]
+        self.assertEqual(subprocess.run(words, stdout=subprocess.DEVNULL, check=False).returncode, 0)
+        return os.listdir(room)
+
+    def test_a_schedule_that_was_made_stays_where_no_list_can_be_made(self) -> None:
+        hull = f"{self.room}/failing.sh"
+        write(hull, f'#!/bin/sh\n[ "$1" != settle ] || [ $# -lt 2 ] || exit 9\nexec {PROGRAM} "$@"\n')
+        os.chmod(hull, 0o755)
+        with self.begun(*GIVEN[:2], "--skip", "elmp,relaxation,convex_hull", "--hull", hull) as ran:
+            said = ran.communicate(timeout=300)[1]
+        self.assertEqual(ran.returncode, 1, said)
+        self.assertIn("study.py: hull settle ended with status 9; what was made is in ", said)
+        self.assertEqual(self.kept_room(said), ["schedule.json"])
+
+    def test_a_schedule_that_was_made_stays_behind_an_interrupt(self) -> None:
+        with self.begun(*GIVEN[:2], "--hull", self.program("settle")) as ran:
+            self.stuck()
+            ran.send_signal(signal.SIGTERM)
+            said = ran.communicate(timeout=300)[1]
+        self.assertEqual(ran.returncode, -signal.SIGTERM, said)
+        self.assertEqual(self.kept_room(said), ["schedule.json"])
+
     def test_a_kill_leaves_the_old_folder_and_no_process(self) -> None:
         self.run_study("--skip", "elmp,relaxation")
         before = self.names()

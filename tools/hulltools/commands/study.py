@@ -219,7 +219,7 @@ def study_of(
     look: Callable[[Sequence[str]], None] = lambda names: None,
     until_written: Optional[contextlib.ExitStack] = None,
 ) -> Study:
-    """The study with all its lists, whose files are written to the room; `look` gets the names of all files that it may write, first.
+    """The study with the lists that could be made, whose files are written to the room; `look` gets the names of all files that it may write, first.
 
     An interrupt behind the last list is heard at the end of `until_written`.
     """
@@ -240,12 +240,14 @@ def study_of(
         study.notes.append(found.missing)
     Maker(hull, files, study, room, tell).make(until_written)
     refuse_changed(before, "the lists are")
-    why = study.interrupted or study.failure
-    if not study.lists and why:
-        raise why
-    if not study.lists:
-        raise HullError(f"there is no list of prices: {' '.join(study.notes) or 'all are skipped'}")
     return study
+
+
+def need_lists(study: Study) -> None:
+    """Refuses a study without a list of prices, by what left the first one out."""
+    if not study.lists:
+        told = " ".join(study.notes).rstrip(".") or "all are skipped"
+        raise study.interrupted or study.failure or HullError(f"there is no list of prices: {told}")
 
 
 def write_results(study: Study, room: str) -> None:
@@ -265,6 +267,15 @@ def write_results(study: Study, room: str) -> None:
         write_together({os.path.join(room, name): text for name, text in {**texts, "study.html": page}.items()})
 
 
+def write_study(study: Study, folder: StudyFolder, tell: Tell) -> None:
+    """Writes what the folder is to have. Without a list of prices a schedule that was made is kept: its search may have taken hours."""
+    if study.interrupted and not study.lists and folder.has_work():
+        tell(f"interrupted before there was a list of prices; {folder.kept_room()}")
+    with folder.keeping():
+        need_lists(study)
+        write_results(study, folder.room)
+
+
 def inputs_of(given: argparse.Namespace) -> list[str]:
     names = (given.case, given.schedule, given.best_schedule, given.zones, *(file for _, file in given.prices))
     return [it for it in names if it]
@@ -278,8 +289,7 @@ def study_in(folder: StudyFolder, given: argparse.Namespace, words: Sequence[str
     with contextlib.ExitStack() as until_written:
         study = study_of(given, words, hull, folder.room, tell, folder.refuse, until_written)
         study.notes += warnings
-        with folder.keeping():
-            write_results(study, folder.room)
+        write_study(study, folder, tell)
         folder.place(study.unfinished)
     return study
 

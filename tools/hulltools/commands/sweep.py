@@ -57,7 +57,7 @@ from ..study_folder import OWN, StudyFolder, bytes_in, sha256_in
 from ..study_tables import lists_table
 from ..sweeping import Scenario, joined, picture_of_sweep, scenarios_of
 from .study import arguments as study_arguments
-from .study import inputs_of, study_of, wanted
+from .study import inputs_of, need_lists, study_of, wanted
 from .words import asker
 
 if TYPE_CHECKING:
@@ -148,6 +148,7 @@ def make_scenario(
         there = {unit.name for unit in read_case(case_file).thermal}
         given.fast_start = [name for name in given.fast_start if name in there]
     study = study_of(given, [shown, place.named, *words], hull, place.room, tell, place.refuse, until_written)
+    need_lists(study)
     if study.interrupted:
         raise study.interrupted
     study.provenance = replace(study.provenance, case_name=shown)
