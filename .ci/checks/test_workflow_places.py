@@ -1,10 +1,12 @@
 """workflow/ touches its own files alone, believes nothing that others write, and reads words as they are meant."""
+import contextlib
 import hashlib
 import importlib
 import json
 import os
 import re
 import shutil
+import signal
 import subprocess
 import sys
 import tempfile
@@ -13,7 +15,7 @@ import unittest
 import unittest.mock
 from datetime import date
 from types import SimpleNamespace
-from typing import Any, Dict, List, Tuple
+from typing import Any, Dict, Iterator, List, Tuple
 
 from built import ROOT
 from test_workflow import PROFILES, RIGHT, SNAKEMAKE, Workflow, read, write
@@ -46,6 +48,14 @@ if kill -0 "$4" 2> /dev/null; then echo "JobState=RUNNING"; else echo "JobState=
 def write_program(name: str, text: str) -> None:
     write(name, text)
     os.chmod(name, 0o755)
+
+
+def is_alive(process: int) -> bool:
+    """Whether a process runs; one that has ended and waits to be heard of doesn't."""
+    try:
+        return read(f"/proc/{process}/stat").rsplit(b")", 1)[1].split()[0] != b"Z"
+    except OSError:
+        return False
 
 
 def looks_of(folder: str) -> Dict[str, Tuple[int, bytes]]:
@@ -484,6 +494,50 @@ class Waits(unittest.TestCase):
             self.assertEqual(str(why.exception), f"another process has held {name} for 2 s: end it, or wait for it")
         with contents.alone(name, told.append, most=0):
             self.assertEqual(len(told), 1)
+
+
+class Ended(unittest.TestCase):
+    """A step of a day whose tool is at work for ten minutes."""
+
+    def setUp(self) -> None:
+        self.room = tempfile.mkdtemp(prefix="hull-ended-")
+        self.addCleanup(shutil.rmtree, self.room)
+        os.makedirs(f"{self.room}/days/one")
+        shutil.copy(f"{ROOT}/examples/usual/case.json", f"{self.room}/days/one")
+        # (a Python that is none, and a program that takes any case)
+        write_program(f"{self.room}/python", f"#!/bin/sh\necho $$ >{self.room}/tool\nexec sleep 600\n")
+        write_program(f"{self.room}/hull", "#!/bin/sh\necho fault 4 schedule 1 0\nexit 4\n")
+
+    @contextlib.contextmanager
+    def begun(self) -> Iterator["subprocess.Popen[str]"]:
+        settings = script("days").Settings(program=f"{self.room}/hull", python=f"{self.room}/python")
+        line = [sys.executable, f"{SCRIPTS}/step.py", "schedule", "one"]
+        env = {**os.environ, "HULL_DAYS_SETTINGS": settings.text(), "TMPDIR": self.room}
+        with subprocess.Popen(line, cwd=self.room, env=env, stderr=subprocess.PIPE, text=True) as running:
+            try:
+                yield running
+            finally:
+                running.kill()
+
+    def tool(self) -> int:
+        """The process of the tool."""
+        name, until = f"{self.room}/tool", time.monotonic() + 60
+        while not (os.path.exists(name) and read(name).strip()) and time.monotonic() < until:
+            time.sleep(0.05)
+        return int(read(name))
+
+    def test_a_tool_is_ended_with_its_step(self) -> None:
+        for number, status in ((signal.SIGTERM, 143), (signal.SIGINT, 130), (signal.SIGKILL, -9)):
+            with self.begun() as running:
+                process = self.tool()
+                running.send_signal(number)
+                running.communicate(timeout=60)
+            self.assertEqual(running.returncode, status)
+            until = time.monotonic() + 60
+            while is_alive(process) and time.monotonic() < until:
+                time.sleep(0.05)
+            self.assertFalse(is_alive(process))
+            os.remove(f"{self.room}/tool")
 
 
 if __name__ == "__main__":

@@ -4,6 +4,7 @@ usage: step.py STEP DAY [--attempt N]
 
 The settings are those that the run hands on.
 """
+import contextlib
 import os
 import re
 import shutil
@@ -20,8 +21,9 @@ sys.path.insert(0, os.path.dirname(os.path.realpath(__file__)))
 from contents import PROGRAM, alone, audit_mark, basis, drop, log_of, make_folders, record_name, record_of, refuse_taken
 from contents import refuse_too_large, sum_of, why_not_current, write_record, write_whole
 from days import HOME, LISTS, REPORT, STEPS, Day, handed_settings, refusal_of_name, shown
+from hulltools.apart import die_with_parent
 from hulltools.commands.words import CUT, MISSED_GAP, Asker
-from hulltools.errors import ENDS, HullError, one_line
+from hulltools.errors import ENDS, HullError, begun, one_line
 from hulltools.faults import sentence
 from hulltools.named_files import Files
 from hulltools.outputs import parse_output
@@ -45,8 +47,13 @@ class Refused(Exception):
         self.passes = line.split()[1] in PASSING
 
 
-def said_by(ran: "subprocess.CompletedProcess[bytes]") -> str:
-    text = one_line(" ".join(ran.stderr.decode("utf-8", "replace").split()))
+def called(line: List[str], **how: Any) -> "contextlib.AbstractContextManager[subprocess.Popen[bytes]]":
+    """A process that a step calls. It is ended with the step, however that ends: nobody would take what it makes."""
+    return begun(line, stdin=subprocess.DEVNULL, stderr=subprocess.PIPE, preexec_fn=die_with_parent, **how)
+
+
+def last_of(said: bytes) -> str:
+    text = one_line(" ".join(said.decode("utf-8", "replace").split()))
     return f": {text[-300:]}" if text else ""
 
 
@@ -55,13 +62,15 @@ def hull(day: Day, command: str, *more: str, copies: Optional[Dict[str, str]] = 
     given = {"case": day.path("case"), "schedule": day.path("schedule"), **files}
     names = {**given, **(copies or {})}
     words = [command, *(word for key, name in names.items() for word in (f"--{key}", name)), *more]
-    ran = subprocess.run([day.settings.program, *words], stdin=subprocess.DEVNULL, capture_output=True)
-    if ran.returncode == 0:
-        return ran.stdout
-    line = one_line(ran.stdout[:1000].decode("utf-8", "replace").rstrip("\n"))
-    if line.startswith(f"fault {ran.returncode} "):
+    with called([day.settings.program, *words], stdout=subprocess.PIPE) as running:
+        text, said = running.communicate()
+    status = running.returncode
+    if status == 0:
+        return text
+    line = one_line(text[:1000].decode("utf-8", "replace").rstrip("\n"))
+    if line.startswith(f"fault {status} "):
         raise Refused(line, in_words(line, Files(given)))
-    raise HullError(f"hull {command} ended with status {ran.returncode}, and no line that says why{said_by(ran)}")
+    raise HullError(f"hull {command} ended with status {status}, and no line that says why{last_of(said)}")
 
 
 def in_words(line: str, files: Files) -> str:
@@ -74,12 +83,13 @@ def in_words(line: str, files: Files) -> str:
 def tool(day: Day, name: str, *words: str) -> None:
     """Runs a tool of the repository; what it says goes on to standard error."""
     program = [day.settings.python, os.path.join(HOME, "tools", name), *words]
-    with subprocess.Popen(program, stdin=subprocess.DEVNULL, stderr=subprocess.PIPE) as running:
+    with called(program) as running:
         assert running.stderr is not None
         last = ""
         for line in running.stderr:
             last = one_line(line.decode("utf-8", "replace").rstrip("\n"))
             print(last, file=sys.stderr, flush=True)
+        running.wait()
     if running.returncode in (MISSED_GAP, CUT):
         raise Missed(last)
     if running.returncode:
