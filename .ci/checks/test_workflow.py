@@ -292,7 +292,7 @@ class Misfortunes(Workflow):
         make_room = self.fill(full)
         is_right, said = self.run_all(**wanted)
         self.assertFalse(is_right)
-        self.assertIn("No space left on device", said)
+        self.assertRegex(said, f"{full}/[^:]+: No space left on device")
         reports = [name for name in (f"{full}/d{number}/report.txt" for number in range(8)) if os.path.exists(name)]
         self.assertTrue(all(read(name).endswith(b"\nend\n") for name in reports))
         self.assertLess(len(reports), 8)
@@ -382,6 +382,18 @@ class Contents(Workflow):
         self.assertFalse(is_right)
         self.assertIn("1 line of what is left", said.replace("2 lines", "1 line"))
         self.assertEqual((list(self.left()), list(self.audited())), (["one"], ["two"]))
+
+    def test_files_of_all_days_come_together_or_stay(self) -> None:
+        self.days("one", "two")
+        self.ends_well()
+        table = read(self.result("table.csv"))
+        os.remove(self.result("page.html"))
+        os.mkdir(self.result("page.html"))
+        self.change("one", "schedule.json", lambda value: value["renewable"].update(W1=[9999]))
+        is_right, said = self.run_all("--retries", "0")
+        self.assertFalse(is_right)
+        self.assertIn("results/page.html: Is a directory", said)
+        self.assertEqual(read(self.result("table.csv")), table)
 
     def test_sums_of_lists_that_have_other_days_are_told(self) -> None:
         self.days("one", "two")

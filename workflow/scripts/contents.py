@@ -13,7 +13,7 @@ import time
 from typing import Any, Callable, Dict, Iterator, List, Mapping, Optional, Tuple
 
 from days import STEPS, Day, Settings
-from hulltools.errors import HullError, one_line
+from hulltools.errors import HullError, one_line, told_with
 
 HIDDEN = ".steps"  # the folder of records and flags
 CHUNK = 1 << 20
@@ -54,20 +54,20 @@ def sum_of_contents(name: str, looks: Tuple[int, ...]) -> str:
 
 def write_whole(name: str, data: bytes) -> None:
     """Writes a file so that it appears whole or not at all; a symbolic link of that name is replaced itself."""
-    folder = os.path.dirname(name)
-    handle, part = tempfile.mkstemp(dir=folder, prefix=".part-")
-    try:
-        with os.fdopen(handle, "wb") as file:
-            file.write(data)
-            file.flush()
-            os.fsync(file.fileno())
-        mask = os.umask(0)
-        os.umask(mask)
-        os.chmod(part, 0o666 & ~mask)
-        os.replace(part, name)
-    finally:
-        with contextlib.suppress(FileNotFoundError):
-            os.unlink(part)
+    with told_with(name):
+        handle, part = tempfile.mkstemp(dir=os.path.dirname(name), prefix=".part-")
+        try:
+            with os.fdopen(handle, "wb") as file:
+                file.write(data)
+                file.flush()
+                os.fsync(file.fileno())
+            mask = os.umask(0)
+            os.umask(mask)
+            os.chmod(part, 0o666 & ~mask)
+            os.replace(part, name)
+        finally:
+            with contextlib.suppress(FileNotFoundError):
+                os.unlink(part)
 
 
 def refuse_links(settings: Settings, *names: str) -> None:

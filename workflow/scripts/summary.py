@@ -15,12 +15,12 @@ from typing import List, Optional, Tuple
 sys.path.insert(0, os.path.dirname(os.path.realpath(__file__)))
 
 from contents import HIDDEN, auditor, basis, is_marked, read_record, record_of, refuse_links, sum_of, why_not_current
-from contents import write_record, write_whole
+from contents import write_record
 from days import FILES, LISTS, REPORT, STEPS, Day, Settings, audits_folder, handed_settings, read_settings, shown
 from plan import plan_of
 from runs import refuse_audits_inside, settings_file
 from hulltools.commands.words import Asker
-from hulltools.errors import HullError, need_output, one_line
+from hulltools.errors import HullError, need_output, one_line, write_together
 from hulltools.outputs import read_output
 from hulltools.tables import Table
 from hulltools.telling import write_text
@@ -189,8 +189,8 @@ def write_files(settings: Settings, summary: Summary) -> None:
             )
     write_record(record, {"made": list(FILES)})
     texts = (table_of(summary).text(), uplift_page(summary), left_text(summary))
-    for name, text in zip(FILES, texts):
-        write_whole(os.path.join(settings.results, name), text.encode())
+    # (a page beside the table of another run would have other sums)
+    write_together({os.path.join(settings.results, name): text for name, text in zip(FILES, texts)})
 
 
 def tell(settings: Settings, text: str) -> None:
