@@ -471,6 +471,19 @@ class Studies(Room):
         self.assertIn("study.py: case.json was changed meanwhile", said)
         self.assertFalse(os.path.exists(f"{self.room}/st"))
 
+    def test_prices_of_a_case_that_is_changed_meanwhile_are_refused(self) -> None:
+        hull = f"{self.room}/changing.sh"
+        write(hull, f'#!/bin/sh\n{PROGRAM} "$@"; s=$?; echo >>{self.room}/case.json; exit $s\n')
+        os.chmod(hull, 0o755)
+        for tool in ("lmp.py", "elmp.py"):
+            shutil.copyfile(f"{DEAR}/case.json", f"{self.room}/case.json")
+            words = ["case.json", f"{DEAR}/schedule.json", "prices.json", "--hull", hull]
+            with self.begun(*words, tool=tool) as ran:
+                said = ran.communicate(timeout=300)[1]
+            due = "case.json was changed meanwhile, so check and prices are of more than one file: nothing is written"
+            self.assertEqual(said.splitlines()[-1], f"{tool}: {due}")
+            self.assertEqual((ran.returncode, os.path.exists(f"{self.room}/prices.json")), (1, False))
+
     def test_a_list_that_takes_too_long_is_left_out(self) -> None:
         said = self.run_study("--seconds", "20", hull=self.program("convex"), status=3)
         due = "Convex hull (certified) is left out: the outer limit of 20 s is over: hull convex."

@@ -31,6 +31,7 @@ from ..fast_start import names_told
 from ..kept_work import write_found
 from ..linear import need_scipy
 from ..program import Hull
+from ..provenance import refuse_changed, sums_of_files
 from ..relaxation import fast_start_prices
 from ..schedules import read_schedule
 from .words import add_fast_start, add_seconds, asker, fast_start, solver_seconds, status_of
@@ -46,12 +47,14 @@ def body(words: Sequence[str], tell: Tell) -> int:
     need_scipy()
     inputs = [given.case, given.schedule]
     try_output(given.prices, inputs)
+    before = sums_of_files(inputs)
     Hull(given.hull, tell, given.seconds).check(given.case, given.schedule)
     case, fast = read_case(given.case), fast_start(given)
     units = fast.units(case)
     if not units:
         raise HullError("no unit is fast-start by the rule given: these prices would be LMPs")
     prices = fast_start_prices(case, read_schedule(given.schedule, case), fast, solver_seconds(given))
+    refuse_changed(before, "check and prices are")
     write_found({given.prices: prices.text()}, inputs)
     tell(f"fast-start: {names_told(units)}")
     return status_of(prices, tell)

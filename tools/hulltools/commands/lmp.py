@@ -21,6 +21,7 @@ from typing import Optional
 from ..cases import read_case
 from ..linear import need_scipy
 from ..program import Hull
+from ..provenance import refuse_changed, sums_of_files
 from ..relaxation import held_prices
 from ..schedules import read_schedule
 from ..errors import Tell, run_tool, try_output
@@ -35,11 +36,14 @@ def body(words: Sequence[str], tell: Tell) -> int:
     add_seconds(ask)
     given = ask.parse_args(words)
     need_scipy()
-    try_output(given.prices, [given.case, given.schedule])
+    inputs = [given.case, given.schedule]
+    try_output(given.prices, inputs)
+    before = sums_of_files(inputs)
     Hull(given.hull, tell, given.seconds).check(given.case, given.schedule)
     case = read_case(given.case)
     prices = held_prices(case, read_schedule(given.schedule, case), solver_seconds(given))
-    write_found({given.prices: prices.text()}, [given.case, given.schedule])
+    refuse_changed(before, "check and prices are")
+    write_found({given.prices: prices.text()}, inputs)
     return status_of(prices, tell)
 
 
