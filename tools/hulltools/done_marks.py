@@ -76,6 +76,13 @@ def key_at(place: str) -> bytes:
     return read_key(place) or secrets.token_bytes(KEY_BYTES)
 
 
+def lasts() -> bool:
+    """Whether a mark of this process holds in a later run, too: the user's key is kept."""
+    place = key_file()
+    used = key_at(place)  # (which is made where there is none)
+    return read_key(place) == used
+
+
 def seal_of(mark: Mark) -> str:
     text = json.dumps(mark, sort_keys=True)
     return hmac.new(key_at(key_file()), text.encode(), hashlib.sha256).hexdigest()

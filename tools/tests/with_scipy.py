@@ -882,6 +882,18 @@ class Sweep(unittest.TestCase):
             self.assertEqual(file.read(), before[:-9].replace(b"250", b"1"))
         self.assertNotIn("it is done", self.sweep("--demand=+2%", "--", "--within", "0.5")[1])
 
+    def test_without_a_place_for_a_key_all_is_made_anew_and_told(self):
+        place = f"{os.path.dirname(self.room)}/none"
+        with open(place, "w", encoding="utf-8"):
+            pass
+        due = f"sweep.py: {place}/hull/key: no key of yours alone can be kept there, so a later run makes all anew"
+        with mock.patch.dict(os.environ, XDG_STATE_HOME=place):
+            status, said = self.sweep("--", "--skip", "elmp,convex_hull")
+        self.assertEqual((status, due in said), (0, True), said)
+        for done in (0, 1):
+            status, said = self.sweep("--", "--skip", "elmp,convex_hull")
+            self.assertEqual((status, "no key" in said, said.count("it is done")), (0, False, done), said)
+
     def program_of(self, note):
         """A program of other bytes than any other one."""
         place = f"{os.path.dirname(self.room)}/hull"

@@ -13,7 +13,8 @@ usage: sweep.py CASE FOLDER [--demand P].. [--wind P].. [--offer NAME=P].. [--ou
   -- WORDS         what stands behind -- are words of study.py, as --search or --gap 0.001
 
 Each scenario gets a schedule of its own. A scenario that is done stays so: after an interrupt the same words go on with what is left, and what
-was made of another case, by other words, by another program or another version of SciPy is made anew. A scenario whose case can't be met is told and left out, with status 1 in the end.
+was made of another case, by other words, by another program or another version of SciPy is made anew. The key by which a run knows its own
+lies in your home; where none can be kept, a line says so, and each run makes all anew. A scenario whose case can't be met is told and left out, with status 1 in the end.
 One of which a list took longer than --seconds, or has prices that were cut, is done too: each run tells it, and ends with status 3.
 Other --seconds make these anew, and no others.
 A file that no sweep made is refused before anything is made, with status 2; one that was changed since gets another name, which is told.
@@ -34,7 +35,7 @@ from typing import TYPE_CHECKING, Optional
 
 from .. import __version__
 from ..cases import Case, read_case
-from ..done_marks import Mark, done_text, files_done
+from ..done_marks import Mark, done_text, files_done, key_file, lasts
 from ..errors import (
     Found,
     HullError,
@@ -68,6 +69,7 @@ CASE, TABLE, DONE = "case.json", "table.csv", "done.json"  # of each scenario
 LACKS = "lacks.txt"  # where a scenario is done without a list that took too long, or with prices that were cut: its study says so here
 SHORT = 3  # the status where there is a scenario of that kind
 GATHERED = ("sweep.csv", "sweep.svg")
+HINT = "the variable XDG_STATE_HOME may name a folder where it can"
 NOT_THERE = (
     "The table and the picture of this sweep aren't there: it is at work, or was ended, or left every scenario out."
 )
@@ -277,6 +279,9 @@ def body(words: Sequence[str], tell: Tell) -> int:
     seconds = study_arguments(["case", "folder", *given.more]).seconds
     sweep = Sweep(given, Hull(given.hull, tell, seconds), read_case(given.case), tell)
     sweep.refuse()
+    goes_on = lasts()
+    if not goes_on:
+        tell(f"{key_file()}: no key of yours alone can be kept there, so a later run makes all anew: {HINT}")
     try:
         sweep.begin()
         for scenario in sweep.scenarios:
@@ -285,7 +290,7 @@ def body(words: Sequence[str], tell: Tell) -> int:
         taken(why)
         of_all = f"{len(sweep.tables)} of {len(sweep.scenarios)} scenarios are done"
         sweep.write(f"Interrupted: {of_all}.")
-        tell(f"interrupted: {of_all}; the same words go on with the others")
+        tell(f"interrupted: {of_all}; the same words {'go on with the others' if goes_on else 'make all anew'}")
         return why.status
     sweep.write()
     return 1 if sweep.left_out else SHORT if sweep.is_short else 0
