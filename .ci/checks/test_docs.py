@@ -11,6 +11,7 @@ from built import ROOT
 
 PAGES = sorted(it for it in glob.glob(f"{ROOT}/**/*.md", recursive=True) if "/out/" not in it)
 NAMED = re.compile(r"(?<![\w/.])((?:docs|examples|tools|bench|crates|\.ci)/[\w./-]*\w)")
+SECTION = re.compile(r"(docs/\w+\.md)[,:] '([^']+)'")
 
 
 class Docs(unittest.TestCase):
@@ -29,6 +30,12 @@ class Docs(unittest.TestCase):
             for name in NAMED.findall(self.read(page)):
                 if "NAME" not in name and "/out/" not in name:
                     self.assertTrue(os.path.exists(f"{ROOT}/{name}"), f"{os.path.relpath(page, ROOT)} names {name}")
+
+    def test_named_sections_are_there(self) -> None:
+        for page in PAGES:
+            for name, section in SECTION.findall(self.read(page)):
+                heads = re.findall(r"^#+ (.*)$", self.read(f"{ROOT}/{name}"), re.M)
+                self.assertIn(section, heads, f"{os.path.relpath(page, ROOT)} names it in {name}")
 
     def test_tables_are_whole(self):
         for page in PAGES:
