@@ -218,6 +218,12 @@ class Report(unittest.TestCase):
         self.assertIn("within 37.00 of the greatest there", page)
         other = CERTIFIED.replace("bound 723", "bound 700").replace("distance 37", "distance 14").replace("127", "150")
         self.assertIn("of other prices or of another mixture", self.certified(other, *files)[0])
+        stuck = f"{self.room}/stuck"
+        with open(stuck, "w", encoding="utf-8") as file:
+            file.write("#!/bin/sh\nexec sleep 60\n")
+        os.chmod(stuck, 0o755)
+        over = self.certified(CERTIFIED, *files, "--seconds", "0.2", "--hull", stuck)[0]
+        self.assertEqual(over, "report.py: the outer limit of 0.2 s is over: hull certify\n")
         words = ("page", self.write(SETTLED), f"{self.room}/page.html", "--mixture", f"{self.room}/certificate")
         self.assertIn("--mixture goes with --case and --schedule", run("report.py", *words)[2])
 

@@ -2,7 +2,7 @@
 
 usage: report.py csv TEXT.. FOLDER [--case F --schedule F] [--currency] [--names-as-they-are]
        report.py plot TEXT PICTURE
-       report.py page TEXT PAGE [--case F --schedule F [--mixture F] [--hull PROGRAM]] [--certificate F]
+       report.py page TEXT PAGE [--case F --schedule F [--mixture F] [--seconds S] [--hull PROGRAM]] [--certificate F]
        report.py prices TEXT PRICES
        report.py mixture TEXT MIXTURE
 
@@ -18,6 +18,8 @@ usage: report.py csv TEXT.. FOLDER [--case F --schedule F] [--currency] [--names
   --case F, --schedule F  demand, requirement and what each unit is to do stand beside
   --mixture F             the page says how near the prices are, by what `hull certify` makes of them and the mixture
   --certificate F         a text of `hull certify` of the same sums; it holds no prices, so the page takes it for that of these only with --mixture
+  --seconds S             with --mixture: `hull certify` is ended after so many seconds, at most 2000000, and no page is written then; if left
+                          out, the case and the mixture alone limit its work
   --hull PROGRAM          the program that certifies; the launcher of this repository if left out
   --currency              numbers in the currency and MW; left out, millionths and kW as the text has them
   --names-as-they-are     left out, ' is put into a name: in front of what a spreadsheet would take for a formula, at the beginning or behind
@@ -53,7 +55,7 @@ from ..schedules import Schedule, read_schedule
 from ..study_folder import write_in_folder
 from ..tables import tables_of, told_apart_count
 from ..errors import HullError, Tell, is_replaced, one_line, refuse_inputs, run_tool, write_whole
-from .words import asker
+from .words import add_seconds, asker
 
 
 def arguments(words: Sequence[str]) -> argparse.Namespace:
@@ -65,6 +67,7 @@ def arguments(words: Sequence[str]) -> argparse.Namespace:
         ask.add_argument(option)
     for option in ("--currency", "--names-as-they-are"):
         ask.add_argument(option, action="store_true")
+    add_seconds(ask)
     given = ask.parse_args(words)
     if given.verb != "csv" and len(given.texts) != 1:
         ask.error(f"{given.verb} takes one text")
@@ -72,6 +75,8 @@ def arguments(words: Sequence[str]) -> argparse.Namespace:
         ask.error("--case and --schedule are given together")
     if given.mixture and not given.case:
         ask.error("--mixture goes with --case and --schedule")
+    if given.seconds is not None and not given.mixture:
+        ask.error("--seconds goes with --mixture")
     return given
 
 
@@ -114,13 +119,15 @@ def write_tables(given: argparse.Namespace, inputs: Sequence[str], tell: Tell) -
         tell(f"{count} name{'s' * (count > 1)} that a spreadsheet would take for something else got ' in front of it")
 
 
-def certificate_of(given: argparse.Namespace, priced: AnyPriced) -> Optional[Certificate]:
+def certificate_of(given: argparse.Namespace, priced: AnyPriced, tell: Tell) -> Optional[Certificate]:
     """The certificate that is given; with a mixture that which the program makes of the text's prices, and the given one is to be the same."""
     read = read_certificate_text(given.certificate) if given.certificate else None
     if not given.mixture:
         return read
     radius = read.radius if read else None
-    made = Hull(given.hull).certify(given.case, given.schedule, priced.prices, given.mixture, radius=radius)
+    made = Hull(given.hull, tell, given.seconds).certify(
+        given.case, given.schedule, priced.prices, given.mixture, radius=radius
+    )
     if read and read != made:
         raise HullError(f"{read.name}: this certificate is of another case, of other prices or of another mixture")
     return made
@@ -146,7 +153,7 @@ def body(words: Sequence[str], tell: Tell) -> None:
     else:
         case, schedule = case_and_schedule(given, [priced])
         need_beside(priced, case, schedule, Costs())
-        certificate = certificate_of(given, priced)
+        certificate = certificate_of(given, priced, tell)
         write_whole(given.to, page_of(priced, schedule, certificate, bool(given.mixture)), inputs)
 
 
