@@ -6,7 +6,7 @@ from decimal import Decimal
 from fractions import Fraction
 from typing import List, Optional, Union
 
-from .day_lengths import changed_day, in_parts, length_on_change
+from .day_lengths import changed_day, example_with_offset, in_parts, length_on_change
 from .errors import HullError
 
 THOUSANDTHS = 1000
@@ -54,7 +54,7 @@ class Clock:
         """
         if self.start is None or self.start.tzinfo or length_on_change(periods) != (self.hours or 1):
             return ""
-        example = f"{self.start.isoformat(timespec='minutes')}+02:00"
+        example = example_with_offset(self.start, periods)
         return (
             f"Periods have numbers and no hours: {periods} of them are {changed_day(periods)}. "
             f"A start with its offset from UTC, as {example}, gives them hours of that offset."

@@ -2,6 +2,7 @@
 from __future__ import annotations
 
 from dataclasses import dataclass
+from datetime import datetime
 from fractions import Fraction
 from typing import Optional
 
@@ -44,6 +45,12 @@ def clock_change(periods: int) -> Optional[ClockChange]:
         if days and abs(periods - 24 * parts * days) == parts:
             return ClockChange(days, parts, periods > 24 * parts * days)
     return None
+
+
+def example_with_offset(start: datetime, periods: int) -> str:
+    """A start with the offset that Central Europe has before such a change, as an example: one that is copied there is right."""
+    change = clock_change(periods)
+    return f"{start.isoformat(timespec='minutes')}{'+02:00' if change and change.is_longer else '+01:00'}"
 
 
 def is_usual(periods: int) -> bool:

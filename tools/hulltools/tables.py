@@ -15,7 +15,7 @@ from typing import TYPE_CHECKING, Any, Optional, SupportsFloat, Union, cast
 from .beside import need_beside
 from .cases import Case
 from .costs import Costs
-from .day_lengths import changed_day, in_parts, length_on_change
+from .day_lengths import changed_day, example_with_offset, in_parts, length_on_change
 from .numbers import decimal_text
 from .errors import HullError, one_line
 from .options import float_of, is_whole_number, number_option, told_value
@@ -229,7 +229,7 @@ def need_sure_times(start: Any, periods: list[int], hours: Optional[float]) -> N
         if hours is None and what:
             raise HullError(f"start needs hours_per_period here: {last} periods may be {what}")
         if start.tzinfo is None and length_on_change(last) == Fraction(hours or 1):
-            due = f"its offset from UTC is due, as {start.isoformat(timespec='minutes')}+02:00"
+            due = f"its offset from UTC is due, as {example_with_offset(start, last)}"
             raise HullError(f"start is {told_value(start)}: {last} periods are {changed_day(last)}: {due}")
 
 

@@ -103,7 +103,8 @@ class Clocks(unittest.TestCase):
             clock = Clock(hours and Fraction(hours), day)
             self.assertEqual((set(clock.times(periods)), clock.labels(periods)[-1]), ({""}, str(periods)))
             self.assertEqual(clock.axis(periods), "period")
-            self.assertIn("A start with its offset from UTC, as 2026-10-25T00:00+02:00", clock.why_unknown(periods))
+            offset = "+01:00" if periods in (23, 94, 167) else "+02:00"
+            self.assertIn(f"A start with its offset from UTC, as 2026-10-25T00:00{offset}", clock.why_unknown(periods))
         for hours, periods in ((Fraction(1, 4), 25), (None, 24)):
             self.assertEqual(Clock(hours, day).why_unknown(periods), "")
         known = Clock(Fraction(1), datetime.fromisoformat("2026-10-25T00:00+02:00"))

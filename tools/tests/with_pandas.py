@@ -141,7 +141,8 @@ class Columns(unittest.TestCase):
             (100, 0.25, "a day of 25 hours in quarter hours, on which clocks go back"),
         ):
             prices = hulltools.per_mwh(30).over(periods)
-            due = f"start is 2026-10-25 00:00:00: {periods} periods are {what}: its offset from UTC is due, as {day}+02:00"
+            offset = "+01:00" if periods == 23 else "+02:00"
+            due = f"start is 2026-10-25 00:00:00: {periods} periods are {what}: its offset from UTC is due, as {day}{offset}"
             for start in (day, datetime(2026, 10, 25), numpy.datetime64(day, "ns")):
                 with self.assertRaises(hulltools.HullError) as found:
                     prices.frame(start, hours)
