@@ -65,7 +65,7 @@ def refusal(words: Sequence[str], status: int, output: bytes) -> HullError:
     """The error of a run that ended with a status other than 0."""
     line = one_line(output.decode("utf-8", "replace").strip())[:300]
     told = f"hull {words[0]} ended with status {status}" + (f": {line}" if line else "")
-    files, code = files_of(words), re.match(r"fault \d+ \w+ (\d+)", line)
+    files, code = files_of(words), re.match(r"fault \d+ (?!work )\w+ (\d+)", line)  # (of work the number is no code)
     try:
         said = sentence(line, files)
     except HullError:

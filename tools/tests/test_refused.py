@@ -764,6 +764,12 @@ class NoJson(unittest.TestCase):
         error = self.error_of(lambda: hulltools.Hull(PROGRAM).text(*words))
         self.assertEqual((error.status, error.code, error.at_byte, error.at_line), (8, 60, None, 2))
 
+    def test_too_much_work_has_no_code(self) -> None:
+        """Behind the word stands how much work it is."""
+        day = f"{EXAMPLES}/day/case.json", f"{EXAMPLES}/day/schedule.json"
+        error = self.error_of(lambda: hulltools.price(*day, proposals=10_000, hull=PROGRAM))
+        self.assertEqual((error.status, error.code), (5, None))
+
     def test_a_file_that_is_too_large_has_its_code(self):
         with open(self.name, "wb") as file:
             file.truncate(67_108_865)
