@@ -191,13 +191,7 @@ def units_of(value: Dict[str, Any], name: str) -> Tuple[Dict[str, Any], Dict[str
     refuse_otherwise_written(value, name, known)
     if any(isinstance(value.get(key), dict) for keys in JULIA.values() for key in keys):
         turned: Dict[str, Any] = {}
-        products = value.get(SPINNING)
-        if isinstance(products, dict) and "Reserve (MW)" not in value:
-            if len(products) > 1:
-                several = f"{len(products)} products, {one_line(some(list(products)))}"
-                raise HullError(f"{name}: {SPINNING} has {several}, and one alone can be followed")
-            reserve = object_of(next(iter(products.values()), {}), name, SPINNING)
-            value = {**value, "Reserve (MW)": reserve}
+        value = with_one_reserve(value, name)
         for key, by_name in value.items():
             for unit, row in by_name.items() if isinstance(by_name, dict) else ():
                 turned.setdefault(unit, {})[key] = row
@@ -209,6 +203,26 @@ def units_of(value: Dict[str, Any], name: str) -> Tuple[Dict[str, Any], Dict[str
             has_lists = isinstance(row, dict) and (group == "thermal" or not row or not row.keys().isdisjoint(PLAIN))
             found[unit] = row if has_lists else {"power": row}
     return found, PLAIN
+
+
+def with_one_reserve(value: Dict[str, Any], name: str) -> Dict[str, Any]:
+    """A solution of UnitCommitment.jl whose reserves are by unit, whether they stand there by unit, or by product and then by unit."""
+    keys = [key for key in (*JULIA["reserve"], SPINNING) if value.get(key)]
+    if len(keys) > 1:
+        raise HullError(f"{name}: it has both `{keys[0]}` and `{keys[1]}`, and one alone can be followed")
+    if not keys or keys[0] != SPINNING and not is_by_product(value[keys[0]]):
+        return value
+    products = object_of(value[keys[0]], name, keys[0])
+    if len(products) > 1:
+        several = f"{len(products)} products, {one_line(some(list(products)))}"
+        raise HullError(f"{name}: {keys[0]} has {several}, and one alone can be followed")
+    return {**value, JULIA["reserve"][0]: object_of(*products.values(), name, keys[0])}
+
+
+def is_by_product(value: Any) -> bool:
+    """Whether the objects of an object have lists, or numbers by period in their turn, as a unit's numbers by period have not."""
+    rows = [row for row in value.values() if isinstance(row, dict)] if isinstance(value, dict) else []
+    return any(isinstance(it, (list, dict)) for row in rows if "values" not in row for it in row.values())
 
 
 def kinds_of(value: Dict[str, Any], name: str) -> Dict[str, str]:

@@ -102,6 +102,28 @@ class ExternalSchedules(unittest.TestCase):
         due = "Spinning reserve (MW) has 2 products, r1, r2, and one alone can be followed"
         self.assertTrue(found.exception.sentence.endswith(due), found.exception)
 
+    def test_reserves_of_unit_commitment_jl_by_unit_and_by_product(self) -> None:
+        """Of one key, whichever version wrote it; of both keys one was skipped."""
+        text = '{"Is on":{"G1":[1]},"Production (MW)":{"G1":[10]},%s}'
+        key, other = '"Reserve (MW)":', '"Spinning reserve (MW)":'
+        by_unit, by_product = '{"G1":[5]}', '{"r1":{"G1":[5]}}'
+        by_period = (by_unit.replace("[5]", '{"1":5}'), by_product.replace("[5]", '{"1":5}'))
+        for row in (key + by_unit, *(key + it for it in by_period), key + by_product, f"{key}{by_unit},{other}{{}}"):
+            self.assertEqual(self.read((text % row).encode()).reserve, {"G1": [5.0]}, row)
+        for row, due in (
+            (
+                key + '{"r1":{"G1":[5]},"r2":{"G1":[2]}}',
+                "Reserve (MW) has 2 products, r1, r2, and one alone can be followed",
+            ),
+            (
+                f"{key}{by_unit},{other}{by_product}",
+                "it has both `Reserve (MW)` and `Spinning reserve (MW)`, and one alone can be followed",
+            ),
+        ):
+            with self.assertRaises(HullError) as found:
+                self.read((text % row).encode())
+            self.assertTrue(found.exception.sentence.endswith(due), found.exception)
+
     def test_lists_of_a_unit_by_other_periods_are_refused(self) -> None:
         on, power = {"1": 1, "2": 0}, {"0": 20, "1": 0}
         why = "aren't of the same periods: '0' is in one of them alone"
