@@ -426,10 +426,10 @@ def whole_list(cells: Cells, what: str, unit: str, name: str, periods: int) -> L
     return [found.get(t, 0.0) for t in range(1, periods + 1)]
 
 
-def network_numbers(row: list[str], folder: str, unit: str) -> list[float]:
-    """The numbers of a column of a network's table."""
+def network_numbers(row: list[str], folder: str, unit: str, flags: Mapping[str, float]) -> list[float]:
+    """The numbers of a column of a network's table, in which these texts may stand for numbers."""
     try:
-        found = [float_of_cell(it) for it in row]
+        found = [flags[it] if it in flags else float_of_cell(it) for it in row]
     except ValueError:
         found = [math.inf]
     if not all(abs(it) <= MOST_MEGAWATTS for it in found):
@@ -440,8 +440,8 @@ def network_numbers(row: list[str], folder: str, unit: str) -> list[float]:
 def followed_network(folder: str, periods: int) -> Followed:
     """The powers and states of a solved network of PyPSA, in its folder of tables."""
     powers, states = solution(folder)
-    found = Followed({unit: network_numbers(row, folder, unit) for unit, row in states.items()}, {})
-    found.power = {unit: network_numbers(row, folder, unit) for unit, row in powers.items()}
+    found = Followed({unit: network_numbers(row, folder, unit, FLAGS) for unit, row in states.items()}, {})
+    found.power = {unit: network_numbers(row, folder, unit, {}) for unit, row in powers.items()}
     if not powers or any(len(row) != periods for row in powers.values()):
         raise HullError(
             f"{folder}: generators-p.csv hasn't a row for each of the {periods} periods: was the network solved?"

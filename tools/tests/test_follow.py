@@ -378,11 +378,12 @@ class Follow(unittest.TestCase):
         rows = [[hour, *(row[t] for row in powers.values())] for t, hour in enumerate(hours)]
         other_forms.write_table(f"{folder}/generators-p.csv", [["snapshot", *powers], *rows])
         states = {name: it["on"] for name, it in plan["thermal"].items()}
-        rows = [[hour, *(float(row[t]) for row in states.values())] for t, hour in enumerate(hours)]
-        other_forms.write_table(f"{folder}/generators-status.csv", [["snapshot", *states], *rows])
-        status, said = self.follow("network", case="pypsa.json")
-        self.assertEqual(status, 0, said)
-        self.assertTrue(said.endswith("its powers are those of network\n"), said)
+        for written in (float, bool):
+            rows = [[hour, *(written(row[t]) for row in states.values())] for t, hour in enumerate(hours)]
+            other_forms.write_table(f"{folder}/generators-status.csv", [["snapshot", *states], *rows])
+            status, said = self.follow("network", case="pypsa.json")
+            self.assertEqual(status, 0, said)
+            self.assertTrue(said.endswith("its powers are those of network\n"), said)
         self.assertEqual({name: it["on"] for name, it in self.made()["thermal"].items()}, states)
         ran = subprocess.run(
             [PROGRAM, "check", "--case", f"{self.room}/pypsa.json", "--schedule", f"{self.room}/made.json"],
