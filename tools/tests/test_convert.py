@@ -1072,6 +1072,27 @@ class Others(WithRoom):
             "no whole file of gzip", self.convert(f"{self.room}/parts.json.gz", f"{self.room}/none.json", status=1)[1]
         )
 
+    def test_a_byte_order_mark_of_an_instance_is_passed_over(self) -> None:
+        """Editors of some systems write it; the program refuses it, and takes the case that is made."""
+        with open(os.path.join(EXAMPLES, "evening", "case.json"), encoding="utf-8") as file:
+            forms = [file.read(), *(json.dumps(it()) for it in (other_forms.unit_commitment_jl, other_forms.egret))]
+        for text in forms:
+            self.write("plain.json", text)
+            self.write("marked.json", f"\ufeff{text}")
+            with open(f"{self.room}/packed.json.gz", "wb") as file:
+                file.write(gzip.compress(f"\ufeff{text}".encode()))
+            for name in ("plain.json", "marked.json", "packed.json.gz"):
+                self.convert(f"{self.room}/{name}", f"{self.room}/of_{name[:5]}.json")
+                self.assertEqual(self.read(f"{self.room}/of_{name[:5]}.json"), self.read(f"{self.room}/of_plain.json"))
+
+    def test_a_file_in_place_of_a_folder(self) -> None:
+        """A file of PyPSA was told to have no snapshot."""
+        for form in ("csv", "pypsa"):
+            for name in (self.write("one.csv", "unit\n"), f"{self.room}/none"):
+                said = self.convert(name, f"{self.room}/none.json", "--from", form, status=1)[1]
+                due = f"convert.py: {os.path.basename(name)}: --from {form} takes a folder, and this is none\n"
+                self.assertEqual(said, due)
+
     def test_a_pipe_is_read_once(self) -> None:
         for text in (market.text(market.case()), json.dumps(other_forms.egret())):
             case = self.write("case.json", text)

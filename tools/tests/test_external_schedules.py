@@ -50,6 +50,10 @@ class ExternalSchedules(unittest.TestCase):
                 self.read(text.encode())
             self.assertNotIn("\n", str(found.exception))
 
+    def test_a_byte_order_mark_is_passed_over(self) -> None:
+        for text in (HEAD + "G1,1,1,10,2\n", '{"thermal":{"G1":{"on":[1],"power":[10],"reserve":[2]}}}'):
+            self.assertEqual(self.read(f"\ufeff{text}".encode()), self.read(text.encode()))
+
     def test_blanks_around_numbers_are_taken(self) -> None:
         found = self.read((HEAD + "G1, 1 , 1,\t10.5, +2e0 \n").encode())
         self.assertEqual((found.on, found.power, found.reserve), ({"G1": [1.0]}, {"G1": [10.5]}, {"G1": [2.0]}))

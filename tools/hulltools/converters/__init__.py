@@ -3,6 +3,7 @@ from __future__ import annotations
 
 import os
 import zlib
+from codecs import BOM_UTF8
 from typing import Callable, Dict, Optional
 
 from ..errors import HullError, read_bytes, shown_name
@@ -13,6 +14,7 @@ from .notes import Notes, Object
 
 MOST_BYTES = 1 << 29  # of a file that is unpacked
 FORMS = ("hull", "csv", "unit-commitment-jl", "egret", "pypsa")
+OF_FOLDERS = ("csv", "pypsa")
 JSON_FORMS: Dict[str, Callable[[Object, Notes], Object]] = {
     "unit-commitment-jl": unit_commitment_jl.case_of,
     "egret": egret.case_of,
@@ -20,10 +22,10 @@ JSON_FORMS: Dict[str, Callable[[Object, Notes], Object]] = {
 
 
 def unpacked(name: str) -> bytes:
-    """The bytes of a file, which may be compressed by gzip."""
+    """The bytes of a file, which may be compressed by gzip, and behind a byte order mark, as some editors write it."""
     data: bytes = read_bytes(name, "an instance")
     if not data.startswith(b"\x1f\x8b"):
-        return data
+        return data.removeprefix(BOM_UTF8)
     found = bytearray()
     while data:  # (a file of gzip may have several members, and zeros behind them)
         unpack = zlib.decompressobj(16 + zlib.MAX_WBITS)
@@ -34,7 +36,7 @@ def unpacked(name: str) -> bytes:
         if not unpack.eof or len(found) > MOST_BYTES:
             raise HullError(f"{name}: no whole file of gzip, or more than {MOST_BYTES:,} bytes")
         data = unpack.unused_data.lstrip(b"\0")
-    return bytes(found)
+    return bytes(found.removeprefix(BOM_UTF8))
 
 
 def json_of(data: bytes, name: str) -> Object:
@@ -98,6 +100,8 @@ def read_form(name: str, notes: Notes, form: Optional[str] = None) -> Object:
     """The case of a file or folder, with notes of what isn't in it. A file is read once, since it may be a pipe."""
     if form is None and os.path.isdir(name):
         form = form_of_folder(name)
+    if form in OF_FOLDERS and not os.path.isdir(name):
+        raise HullError(f"{shown_name(name)}: --from {form} takes a folder, and this is none")
     if form == "csv":
         return csv_folder.read_csv(name, notes)
     if form == "pypsa":
