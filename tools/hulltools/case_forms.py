@@ -8,7 +8,7 @@ from typing import Any, Optional, TypeVar
 from .cases import Bid, Case, Renewable, Thermal
 from .errors import HullError, one_line
 from .json_texts import refused_as
-from .options import counted, is_flag, is_list, is_plain_whole, is_whole_number, told_value
+from .options import counted, is_flag, is_list, is_plain_whole, is_whole_number, refuse_backward, told_value
 
 KILOWATTS, MILLIONTHS = "kilowatts", "millionths"
 PER_KILOWATT = "millionths per kilowatt"
@@ -22,6 +22,7 @@ Found = tuple[str, Any, str, Optional[int]]  # a member, its number, the unit of
 def items_at(name: str, numbers: Any) -> list[Any]:
     if not is_list(numbers):
         raise HullError(f"{name} is {told_value(numbers)}: a list is due")
+    refuse_backward(name, numbers)
     return list(numbers)
 
 

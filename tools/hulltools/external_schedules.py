@@ -216,7 +216,8 @@ def with_one_reserve(value: Dict[str, Any], name: str) -> Dict[str, Any]:
     if len(products) > 1:
         several = f"{len(products)} products, {one_line(some(list(products)))}"
         raise HullError(f"{name}: {keys[0]} has {several}, and one alone can be followed")
-    return {**value, JULIA["reserve"][0]: object_of(*products.values(), name, keys[0])}
+    by_unit = object_of(next(iter(products.values())), name, keys[0])
+    return {**value, JULIA["reserve"][0]: by_unit}
 
 
 def is_by_product(value: Any) -> bool:

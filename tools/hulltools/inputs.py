@@ -17,7 +17,7 @@ from .json_texts import STATUS, Refused, json_text, parse, refused_as
 from .lint_keys import KEYS
 from .mixtures import Mixture
 from .numbers import PRICE_LIMIT, MillionthsPerKilowatt
-from .options import counted, float_of, hint_of, is_list, items_of, number_option, told_value
+from .options import counted, float_of, hint_of, is_list, items_of, number_option, refuse_backward, told_value
 from .prices import FlatPrices, Prices, PriceSource, prices_of, read_prices
 from .schedules import Schedule, read_schedule, schedule_of
 from .zones import PRICES_KEYS, ZONES_KEYS, Zones, read_zones, zones_of
@@ -111,7 +111,10 @@ def warn_caller(text: str) -> None:
 
 
 def numbers_of(value: Any, path: tuple[Any, ...] = ()) -> Iterator[tuple[tuple[Any, ...], Any]]:
-    """The floating and decimal numbers of a value that goes into a file, and NA of pandas, each with its path; items are counted from 1."""
+    """The floating and decimal numbers of a value that goes into a file, and NA of pandas, each with its path; items are counted from 1.
+
+    A series whose times go back is refused.
+    """
     if isinstance(value, Mapping):
         for key, member in value.items():
             yield from numbers_of(member, (*path, key))
@@ -121,6 +124,7 @@ def numbers_of(value: Any, path: tuple[Any, ...] = ()) -> Iterator[tuple[tuple[A
     elif isinstance(value, (float, Decimal)) or type(value).__name__ == "NAType":
         yield path, value
     elif callable(getattr(value, "tolist", None)):
+        refuse_backward(", ".join(one_line(str(it)) for it in path), value)
         yield from numbers_of(value.tolist(), path)
 
 

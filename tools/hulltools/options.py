@@ -6,6 +6,7 @@ import math
 import operator
 from collections.abc import Iterable, Mapping, Sequence, Set
 from dataclasses import fields
+from datetime import datetime, timedelta
 from typing import TYPE_CHECKING, Any, Optional, TypeVar, cast
 
 from .errors import HullError, one_line
@@ -87,10 +88,37 @@ def is_list(given: object) -> bool:
     return isinstance(given, Iterable) and not isinstance(given, (str, bytes)) and getattr(given, "ndim", 1) > 0
 
 
+def time_of_label(label: Any) -> Optional[datetime]:
+    """The time that a label of a series is, also as a text that begins with the year; None of another label."""
+    if isinstance(label, str):
+        try:
+            return datetime.fromisoformat(label.strip()) if label[4:5] == "-" else None
+        except ValueError:
+            return None
+    found = getattr(label, "start_time", label)  # (of a period of pandas)
+    return found if isinstance(found, datetime) else None
+
+
+def refuse_backward(name: str, given: Any) -> None:
+    """Refuses a series of pandas whose times go back, as where the last one stands first: its numbers are taken by their places."""
+    index = getattr(given, "index", ())
+    times = [] if callable(index) else [time_of_label(it) for it in index]
+    known = [it for it in times if it is not None]
+    if len(known) < len(times) or len({it.tzinfo is None for it in known}) != 1:
+        return
+    back = [(one, other) for one, other in zip(known, known[1:]) if other < one]
+    # (where summer ends, times without an offset go back once, by less than an hour)
+    is_clock = known[0].tzinfo is None and len(back) == 1 and back[0][0] - back[0][1] < timedelta(hours=1)
+    if back and not is_clock:
+        one, other = (told_value(it) for it in back[0])
+        raise HullError(f"{name}: its times go back from {one} to {other}, and the order of time is due")
+
+
 def items_of(name: str, given: Any) -> list[Any]:
     """The items of a list by period; what has another shape, or no item, is refused."""
     if not is_list(given) or isinstance(given, (Mapping, Set)) or getattr(given, "ndim", 1) > 1:
         raise HullError(f"{name}: a list of one number for each period is due, and not {told_value(given)}")
+    refuse_backward(name, given)
     found = list(given)
     if not found:
         raise HullError(f"{name}: the list is empty, and a number for each period is due")

@@ -11,7 +11,7 @@ from .cases import Case, POWER, Unit
 from .json_texts import is_number, read_json, refused_as
 from .numbers import is_whole, Kilowatts
 from .errors import HullError, Name, one_line, write_whole
-from .options import FieldsAlone, is_flag, is_list, is_plain_whole, is_whole_number, member, told_value
+from .options import FieldsAlone, is_flag, is_list, is_plain_whole, is_whole_number, member, refuse_backward, told_value
 
 if TYPE_CHECKING:
     from pandas import DataFrame
@@ -44,6 +44,7 @@ def written(kind: str, name: str, key: str, numbers: Any) -> list[int]:
     where, of = f'the schedule given: {kind} "{one_line(name)}": {key}', PLAN[key]
     if not is_list(numbers):
         raise HullError(f"{where} is {told_value(numbers)}: a list of a number for each period is due", unit=name)
+    refuse_backward(where, numbers)
     found = [int(number) if key == "on" and is_flag(number) else number for number in numbers]
     wrong = next((t for t, number in enumerate(found, 1) if not is_whole_number(number)), None)
     if wrong is not None:

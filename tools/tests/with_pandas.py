@@ -173,7 +173,7 @@ class Columns(unittest.TestCase):
 
 
 class Set(unittest.TestCase):
-    """What a script sets to a series is taken by the places of its items, whatever its index is."""
+    """What a script sets to a series is taken by the places of its items, whatever its index is, but for times that go back."""
 
     def setUp(self):
         self.case = hulltools.read_case(f"{EXAMPLES}/evening/case.json")
@@ -198,6 +198,33 @@ class Set(unittest.TestCase):
         self.assertEqual(found, due)
         frames = found.frames(case, schedule), due.frames(self.case, self.schedule)
         self.assertTrue(all(frames[0][name].equals(frames[1][name]) for name in frames[1]))
+
+    def test_times_that_go_back_are_refused(self):
+        """Numbers are taken by their places: of a series with the last hour first, each would stand at another period."""
+        hours = pandas.date_range("2026-07-01", periods=6, freq="h", tz="Europe/Berlin")
+        for times in (hours, hours.tz_localize(None), hours.tz_localize(None).to_period("h"), hours.astype(str)):
+            series = pandas.Series(range(6), index=times)
+            self.assertEqual(hulltools.per_mwh(series).energy, [it * 1000 for it in range(6)])
+            case, schedule, back = copy.deepcopy(self.case), copy.deepcopy(self.schedule), series[::-1]
+            case.demand = schedule.plan("thermal", "G1").power = back
+            for call, name in (
+                (lambda back=back: hulltools.per_mwh(back), "the energy prices"),
+                (lambda back=back: hulltools.inputs.as_prices({"energy": back}, self.case), "energy"),
+                (lambda case=case: hulltools.inputs.as_case(case), "the case given: demand"),
+                (lambda it=schedule: hulltools.inputs.as_schedule(it, self.case), 'thermal "G1": power'),
+            ):
+                with self.assertRaisesRegex(
+                    hulltools.HullError, f"{name}: its times go back from 2026-.* the order of time is due$"
+                ):
+                    call()
+
+    def test_series_whose_order_is_sure_are_taken(self):
+        """Whole numbers come of sorted and of joined frames; a clock without an offset goes back once, in autumn."""
+        quarters = pandas.date_range("2026-10-25T00:15", periods=6, freq="15min", tz="UTC").tz_convert("Europe/Berlin")
+        quarters = quarters.tz_localize(None)
+        for index in ([2, 1, 0, 5, 4, 3], [0, 1, 2] * 2, list("fedcba"), quarters, quarters.astype(str)):
+            found = hulltools.per_mwh(pandas.Series(range(6), index=index))
+            self.assertEqual(found.energy, [it * 1000 for it in range(6)])
 
     def numbers(self, value):
         """The same numbers as NumPy has them, in lists and pairs."""
