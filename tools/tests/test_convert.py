@@ -1053,6 +1053,14 @@ class Others(WithRoom):
             due = "convert.py: net/snapshots.csv, row 1: the weight of a snapshot in the costs is to be above 0\n"
             self.assertEqual(told, due)
 
+    def test_weights_of_snapshots_that_differ_are_refused(self) -> None:
+        """The first was taken for all, so costs of power stood in another proportion to those of starts."""
+        snapshots = "snapshot,objective\n0,3\n1,1\n"
+        told, _ = self.small_network("name,bus,p_nom\ng,b,10\n", snapshots, status=1)
+        what = "weights of snapshots in the costs differ, 3 of 0 and 1 of 1: periods of hull have one length"
+        self.assertEqual(told, f"convert.py: net/snapshots.csv: {what}\n")
+        self.small_network("name,bus,p_nom\ng,b,10\n", snapshots.replace(",1\n", ",3.0\n"))
+
     def test_a_network_without_snapshots(self) -> None:
         told, _ = self.small_network("name,bus,p_nom\ng,b,10\n", "snapshot,objective\n", status=1)
         self.assertEqual(told, "convert.py: net/snapshots.csv: it has no row of a snapshot\n")

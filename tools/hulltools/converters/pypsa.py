@@ -129,7 +129,7 @@ class Network:
             raise HullError(f"{os.path.join(folder, 'snapshots.csv')}: it has no row of a snapshot")
         self.generators = table(folder, "generators.csv")
         self.varying = {it: self.columns_of("generators", it, self.generators) for it in VARYING}
-        self.hours = self.weight()
+        self.hours = Fraction(1)
 
     def columns(self, file: str) -> Dict[str, List[str]]:
         """The columns of a table over the snapshots, by name; its rows may stand in another order than those of snapshots.csv."""
@@ -170,14 +170,19 @@ class Network:
 
     def weight(self) -> Fraction:
         """How many hours a snapshot counts for in the costs."""
-        found = [self.weight_of(name, row) for name, row in self.snapshots.items()]
-        if len(set(found)) > 1:
-            self.notes.left_out("snapshot weightings that differ: the first is taken for all")
-        if found and found[0] != 1:
-            self.notes.changed(f"costs are those of a snapshot, of weight {found[0]}")
-        return Fraction(found[0]) if found else Fraction(1)
+        found = {name: self.weight_of(name, row) for name, row in self.snapshots.items()}
+        (first, weight), *others = found.items()
+        odd = next((name for name, it in others if it != weight), None)
+        if odd is not None:
+            what = f"weights of snapshots in the costs differ, {weight} of {first} and {found[odd]} of {odd}"
+            place = os.path.join(self.folder, "snapshots.csv")
+            raise HullError(f"{place}: {one_line(what)}: periods of hull have one length")
+        if weight != 1:
+            self.notes.changed(f"costs are those of a snapshot, of weight {weight}")
+        return Fraction(weight)
 
     def case(self) -> Object:
+        self.hours = self.weight()  # (a solution to follow has no costs)
         case: Object = {"time_periods": self.periods, "demand": self.demand(), "reserves": [Decimal(0)] * self.periods}
         case.update(thermal_generators={}, renewable_generators={})
         for name in self.generators:
