@@ -931,12 +931,25 @@ class Others(WithRoom):
         line = next(it for it in told.splitlines() if it.startswith("changed: the first snapshot"))
         self.assertEqual(line.split(";")[1], " the column p_init of generators.csv gives that power (3: b, c, d)")
 
-    def test_signs_and_carriers_of_pypsa(self) -> None:
-        """A sign of 0.001 has p_nom in kW, and one of -1 takes power; a load of heat is none of power."""
-        for sign in ("-1.0", "0.001"):
+    def test_signs_of_pypsa(self) -> None:
+        """A sign of 0.001 has p_nom in kW and costs per kWh, as load shedding often has, and one of -1 takes power."""
+        head = "name,bus,p_nom,committable,p_min_pu,marginal_cost,marginal_cost_quadratic,stand_by_cost,ramp_limit_up,sign,p_init\n"
+        told, case = self.small_network(f"{head}g,b,8000,True,0.25,0.03,0.000002,5,0.5,0.001,4000\n")
+        self.assertIn(
+            "changed: sign that isn't 1 is a factor: of p_nom and p_init, and 1 over it of marginal costs (1: g)\n",
+            told,
+        )
+        due = self.small_network(f"{head}g,b,8,True,0.25,30,2,5,0.5,,4\n")[1]
+        self.assertEqual(case, due)
+        points = case["thermal_generators"]["g"]["piecewise_production"]
+        self.assertEqual((points[0], points[-1]), ({"mw": 2, "cost": 73}, {"mw": 8, "cost": 373}))
+        for sign in ("-1.0", "0"):
             told, _ = self.small_network(f"name,bus,p_nom,sign\ng,b,10,{sign}\n", status=1)
-            what = f"sign: 1 is due, and {sign} is found: p_nom and costs are of another unit or way"
+            what = f"sign: a number above 0 is due, and {sign} is found"
             self.assertEqual(told, f'convert.py: generator "g", {what}\n')
+
+    def test_carriers_of_pypsa(self) -> None:
+        """A load of heat is none of power."""
         generators = "name,bus,p_nom,sign\ng,ac,10,1.0\nh,dc,10,\n"
         for carriers, count in ((("", "AC", "DC"), 0), (("heat", "AC", "DC"), 3)):
             buses = [f"{name},{carrier}\n" for name, carrier in zip(("b", "ac", "dc"), carriers)]

@@ -402,8 +402,10 @@ class Follow(unittest.TestCase):
             ["SHED", 500, "", "", 3000, "", ""],
         ]
         units.append(["OLD", 10, True, "", 1, "", False])
-        other_forms.write_table(f"{folder}/generators.csv", [head, *units])
-        demand, powers = [120, 90, 90, 120], [[100, 20], [90, 0], [90, 0], [100, 20]]
+        rows = [[*unit, 0.001 if unit[0] == "B" else ""] for unit in units]
+        rows[1][1] *= 1000  # (in kW)
+        other_forms.write_table(f"{folder}/generators.csv", [[*head, "sign"], *rows])
+        demand, powers = [120, 90, 90, 120], [[100, 20e3], [90, 0], [90, 0], [100, 20e3]]
         for name, columns, rows in (
             ("snapshots", ["objective"], [[1.0]] * 4),
             ("loads-p_set", ["L"], [[it] for it in demand]),

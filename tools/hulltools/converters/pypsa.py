@@ -235,12 +235,24 @@ class Network:
     def is_active(self, name: str) -> bool:
         return not self.generators[name].get("active", "") or self.flag(name, "active")
 
+    def sign(self, name: str) -> Decimal:
+        """How many MW one of a generator's power is: 0.001 where that is in kW. One that takes power is refused."""
+        found = self.value(name, "sign")
+        if found is not None and found <= 0:
+            raise HullError(one_line(f'generator "{name}", sign: a number above 0 is due, and {found} is found'))
+        return Decimal(1) if found is None else found
+
+    def in_megawatts(self, name: str, powers: List[str]) -> List[str]:
+        """Powers of a generator with a sign."""
+        sign, what = self.sign(name), f'generator "{name}", p'
+        return [str(cell_number(it.strip(), what) * sign) for it in powers]
+
     def size(self, name: str) -> Decimal:
         """What a generator can give at most, in MW."""
         found = self.value(name, "p_nom")
         if found is None:
             self.notes.assumed("a generator without p_nom gives nothing", name)
-        return found or Decimal(0)
+        return (found or Decimal(0)) * self.sign(name)
 
     def whole(self, name: str, key: str, default: int) -> int:
         found = self.value(name, key)
@@ -254,12 +266,11 @@ class Network:
         if not self.is_active(name):
             self.notes.left_out("generators that aren't active", name)
             return
-        if self.value(name, "sign") not in (None, 1):
-            text = self.generators[name]["sign"].strip()
-            what = (
-                f'generator "{name}", sign: 1 is due, and {text} is found: p_nom and costs are of another unit or way'
+        sign = self.sign(name)
+        if sign != 1:
+            self.notes.changed(
+                "sign that isn't 1 is a factor: of p_nom and p_init, and 1 over it of marginal costs", name
             )
-            raise HullError(one_line(what))
         if self.flag(name, "p_nom_extendable"):
             self.notes.left_out("that a capacity may be extended: p_nom is taken", name)
         most, least, cost = (
@@ -329,7 +340,7 @@ class Network:
         if found is None:
             what = "PyPSA has no power before the first snapshot: of a unit that is on it is halfway from the least to the greatest"
             self.notes.assumed(what, name)
-        return halfway if found is None else found
+        return halfway if found is None else found * self.sign(name)
 
     def thermal(self, name: str, least_pu: Decimal, most_pu: Decimal, cost: Decimal) -> Object:
         size = self.size(name)
@@ -386,7 +397,8 @@ class Network:
         if pieces > 1:
             self.notes.changed(f"quadratic costs are cut into {PIECES} straight pieces", name)
         powers = in_pieces(least, most, pieces)
-        costs = [scaled(fixed + cost * at + square * at * at, self.hours) for at in powers]
+        own = [scaled(at, 1 / Fraction(self.sign(name))) for at in powers]  # (in the unit that marginal costs are of)
+        costs = [scaled(fixed + cost * it + square * it * it, self.hours) for it in own]
         return points_of(powers, costs, f'generator "{name}"')
 
     def drop_columns(self, name: str) -> None:
@@ -446,6 +458,8 @@ def solution(folder: str) -> Tuple[Dict[str, List[str]], Dict[str, List[str]]]:
     powers, states = network.columns("generators-p.csv"), network.columns("generators-status.csv")
     for name in filter(network.is_active, network.generators) if powers else ():
         powers.setdefault(name, ["0"] * network.periods)
+        if network.sign(name) != 1:
+            powers[name] = network.in_megawatts(name, powers[name])
         if network.flag(name, "committable"):
             states.setdefault(name, ["1"] * network.periods)
     return powers, states
