@@ -313,16 +313,21 @@ def rows_in(text: str, name: str, delimiter: str = ",") -> Iterator[tuple[int, l
 
 
 def named_rows(text: str, name: str) -> tuple[list[str], list[tuple[int, dict[str, str]]]]:
-    """The columns that the first line names, and the rows behind it with their lines; rows without a cell are passed over."""
+    """The columns that the first line names, and the rows behind it with their lines; empty rows are passed over, as spreadsheets write them."""
     rows = rows_in(text, name)
     columns: list[str] = next((cells for _, cells in rows), [])
-    refuse_twice_named(columns, name)
+    refuse_twice_named([it for it in columns if it], name)
     found = []
-    for line, cells in (row for row in rows if row[1]):
+    for line, cells in (row for row in rows if any(map(str.strip, row[1]))):
         if len(cells) > len(columns):
             raise HullError(
                 f"{name}, line {line}: it has more cells than the first line names columns. Is a decimal comma in it?"
             )
+        # (in front stands an index, as pandas writes one)
+        bare = next((cell for column, cell in [*zip(columns, cells)][1:] if not column and cell.strip()), None)
+        if bare is not None:
+            told = f"{bare.strip()!r} stands in a column without a name. Is a decimal comma in the row?"
+            raise HullError(f"{name}, line {line}: {one_line(told)}")
         found.append((line, dict(zip(columns, [*cells, *[""] * (len(columns) - len(cells))]))))
     return columns, found
 

@@ -50,6 +50,17 @@ class ExternalSchedules(unittest.TestCase):
                 self.read(text.encode())
             self.assertNotIn("\n", str(found.exception))
 
+    def test_empty_rows_and_columns_of_a_spreadsheet(self) -> None:
+        """They are passed over; a cell in a column without a name is most likely what a decimal comma has parted."""
+        due = self.read((HEAD + "G1,1,1,10,2\n").encode())
+        head = HEAD.strip()
+        for text in (f"{head}\nG1,1,1,10,2\n,,,,\n , \n", f"{head},,\nG1,1,1,10,2,,\n", f",{head}\n0,G1,1,1,10,2\n"):
+            self.assertEqual(self.read(text.encode()), due, text)
+        with self.assertRaises(HullError) as found:
+            self.read(f"{head},\nG1,1,1,10,5,2\n".encode())
+        why = "line 2: '2' stands in a column without a name. Is a decimal comma in the row?"
+        self.assertTrue(found.exception.sentence.endswith(why), found.exception)
+
     def test_a_byte_order_mark_is_passed_over(self) -> None:
         for text in (HEAD + "G1,1,1,10,2\n", '{"thermal":{"G1":{"on":[1],"power":[10],"reserve":[2]}}}'):
             self.assertEqual(self.read(f"\ufeff{text}".encode()), self.read(text.encode()))
