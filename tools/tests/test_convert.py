@@ -675,6 +675,18 @@ class Others(WithRoom):
         ):
             self.assertIn(f"{line}\n", told)
 
+    def test_reserves_of_areas_of_egret_are_told(self) -> None:
+        """The case has the system's alone, and an area is left out by its name otherwise."""
+        model = other_forms.egret()
+        model["elements"]["area"] = {
+            "A1": {"spinning_reserve_requirement": other_forms.over_time([5] * 24)},
+            "A2": {"reserve_requirement": None},
+        }
+        other_forms.write_json(f"{self.room}/areas.json", model)
+        told, _ = self.convert(f"{self.room}/areas.json", f"{self.room}/case.json")
+        for line in ("left out: area: its reserves (1: A1)", "left out: area (1: A2)"):
+            self.assertIn(f"{line}\n", told)
+
     def test_costs_of_egret_over_time(self) -> None:
         """A curve or a fuel cost of each period: the first is taken, which is told where another differs."""
         curves = [{"data_type": "cost_curve", "values": [[50, 1], [100, at]]} for at in (9, 9, 8)]

@@ -43,6 +43,12 @@ def values(found: Any) -> Any:
     return found.get("values") if isinstance(found, dict) and found.get("data_type") == "time_series" else found
 
 
+def has_reserves(value: Any) -> bool:
+    """Whether an area or a zone has a reserve to be met in it."""
+    rows = value.items() if isinstance(value, dict) else ()
+    return any(key.endswith("_requirement") and found not in (None, 0) for key, found in rows)
+
+
 class Model:
     """One ModelData while it is read."""
 
@@ -70,8 +76,8 @@ class Model:
         for key in self.elements.value:
             if key not in self.elements.seen:
                 what = f"{key}: {NETWORK}" if key in ("branch", "dc_branch", "interface", "shunt") else key
-                for name in self.elements.object(key):
-                    self.notes.left_out(what, name)
+                for name, value in self.elements.object(key).items():
+                    self.notes.left_out(f"{what}: its reserves" if has_reserves(value) else what, name)
         for key in SAID[2:]:
             self.system.take(key)
         if any(self.system.value.get(key) is not None for key in SAID[-2:]):
