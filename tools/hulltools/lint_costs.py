@@ -3,7 +3,7 @@ from __future__ import annotations
 
 from dataclasses import dataclass
 from fractions import Fraction
-from typing import Dict, Iterator, List, Optional, Tuple
+from typing import Dict, Iterator, List, Optional, Sequence, Tuple
 
 from .cases import Thermal
 from .costs import envelope
@@ -41,6 +41,7 @@ class CostCheck:
         return CostCheck(highest, middle([it for it in map(average, units) if it is not None and it > 0]))
 
     def oddities(self, unit: Thermal) -> Iterator[Oddity]:
+        yield from two_costs(unit)
         found = self.per_mwh_shape(unit)
         if found:
             yield found
@@ -88,6 +89,23 @@ class CostCheck:
                 f"{where} costs {per_mwh(float(slope or 0))}, above {self.highest:,g} (--highest-cost). Are its costs in cents, or its powers in "
                 "gigawatts? Costs are in the currency, powers in megawatts",
             )
+
+
+def first_twice(rows: Sequence[Tuple[int, int]]) -> Optional[Tuple[int, int, int]]:
+    """The first power or lag that has two costs, and both."""
+    pairs = zip(rows, rows[1:])
+    return next(((at, cost, more) for (at, cost), (other, more) in pairs if at == other and cost != more), None)
+
+
+def two_costs(unit: Thermal) -> Iterator[Oddity]:
+    """A power or a lag that has two costs, as where rows of two versions of a table stand below each other."""
+    point, start = first_twice(unit.points), first_twice(unit.lags)
+    if point:
+        told = f"{megawatts(point[0])}, {money(point[1])} and {money(point[2])}, of which the least counts"
+        yield Oddity("two-costs", KEY, f"it has two costs at {told}: leave one")
+    if start:
+        told = f"a lag of {start[0]}, {money(start[1])} and {money(start[2])}, of which the last counts"
+        yield Oddity("two-costs", "startup", f"it has two costs of a start at {told}: leave one")
 
 
 def steepest_fall(unit: Thermal) -> Tuple[int, Fraction, Fraction]:

@@ -374,6 +374,35 @@ for mistake in MISTAKES:
     setattr(Mistakes, f"test_{mistake.replace(' ', '_')}", told_test(mistake))
 
 
+class TwoCosts(unittest.TestCase):
+    def test_a_power_or_a_lag_with_two_costs(self) -> None:
+        """Rows of two versions of a table are read as one curve, of which a part doesn't count."""
+        with open(f"{EXAMPLES}/evening/case.json", encoding="utf-8") as file:
+            case = json.load(file)
+        unit = case["thermal_generators"]["G2"]
+        points, starts = unit["piecewise_production"], unit["startup"]
+        for last, first, due in (
+            (points[-1]["cost"], starts[0]["cost"], []),
+            (
+                points[-1]["cost"] + 1,
+                90,
+                [
+                    "it has two costs at 50 MW, 1,800.00 and 1,801.00, of which the least counts: leave one",
+                    "it has two costs of a start at a lag of 2, 90.00 and 100.00, of which the last counts: leave one",
+                ],
+            ),
+        ):
+            unit["piecewise_production"] = [*points, {**points[-1], "cost": last}]
+            unit["startup"] = [{**starts[0], "cost": first}, *starts]
+            with tempfile.TemporaryDirectory(prefix="hull-lint-") as room:
+                with open(f"{room}/case.json", "w", encoding="utf-8") as file:
+                    json.dump(case, file)
+                found = [it for it in look({"case": f"{room}/case.json"}).findings if it.rule == "two-costs"]
+            self.assertEqual(len(found), len(due), found)
+            for finding, text in zip(found, due):
+                self.assertIn(text, finding.text)
+
+
 class Lines(WithFiles):
     """The first error has the line that hull prints."""
 
