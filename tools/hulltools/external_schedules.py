@@ -386,8 +386,11 @@ def float_of_cell(cell: Any) -> float:
 
 
 def period_of(cell: Any) -> int:
-    if isinstance(cell, str) and not re.fullmatch("[0-9]{1,9}", cell.strip(" \t")):
-        raise ValueError(cell)
+    """A cell's period; a whole number that a spreadsheet has as 3.0 is taken too."""
+    if isinstance(cell, str):
+        cell = re.sub(r"\.0*\Z", "", cell.strip(" \t"))
+        if not re.fullmatch("[0-9]{1,9}", cell):
+            raise ValueError(cell)
     period = int(cell)
     if not isinstance(cell, str) and period != cell:
         raise ValueError(cell)

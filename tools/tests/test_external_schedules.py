@@ -15,7 +15,10 @@ HEAD = "unit,period,on,power,reserve\n"
 DAMAGED = [
     HEAD + f"G1,1,1,10,{'0' * 140_000}\n",
     *(HEAD + f"G1,1,1,{it},0\n" for it in ("inf", "-inf", "nan", "1e399", "1000001", "x")),
-    *(HEAD + f"G1,{it},1,10,0\n" for it in ("0", "2", "-1", "1.0", "", "9" * 5000, "0_1", "+1", "\uff11", "\u20031")),
+    *(
+        HEAD + f"G1,{it},1,10,0\n"
+        for it in ("0", "2", "-1", "1.5", "1.0.0", "", "9" * 5000, "0_1", "+1", "\uff11", "\u20031")
+    ),
     *(HEAD + f"G1,1,1,{it},0\n" for it in ("1_0", "\uff11\uff10", "\u0661", "infinity", "1\u2003", "0x1", "1 0")),
     HEAD + '"G1,1,1,10,0\n',
     HEAD + 'G1,1,1,"10\n",0\n',
@@ -66,8 +69,9 @@ class ExternalSchedules(unittest.TestCase):
             self.assertEqual(self.read(f"\ufeff{text}".encode()), self.read(text.encode()))
 
     def test_blanks_around_numbers_are_taken(self) -> None:
-        found = self.read((HEAD + "G1, 1 , 1,\t10.5, +2e0 \n").encode())
-        self.assertEqual((found.on, found.power, found.reserve), ({"G1": [1.0]}, {"G1": [10.5]}, {"G1": [2.0]}))
+        for period in (" 1 ", "1.0", " 1. "):
+            found = self.read((HEAD + f"G1,{period}, 1,\t10.5, +2e0 \n").encode())
+            self.assertEqual((found.on, found.power, found.reserve), ({"G1": [1.0]}, {"G1": [10.5]}, {"G1": [2.0]}))
 
     def test_powers_of_renewable_units_and_bids_may_stand_by_period(self) -> None:
         for row in (
