@@ -960,6 +960,13 @@ class Others(WithRoom):
             what = f"sign: a number above 0 is due, and {sign} is found"
             self.assertEqual(told, f'convert.py: generator "g", {what}\n')
 
+    def test_what_floating_sums_leave_of_no_demand(self) -> None:
+        """It is 0 in whole kilowatts, as hull reads it; a demand below that is refused."""
+        for power, status in (("-1e-13", 0), ("-0.0005", 0), ("-0.0006", 1)):
+            self.small_network("name,bus,p_nom\ng,b,10\n")
+            self.write("net/loads.csv", f"name,bus,p_set\nl,b,{power}\n")
+            self.convert(f"{self.room}/net", f"{self.room}/case.json", status=status)
+
     def test_carriers_of_pypsa(self) -> None:
         """A load of heat is none of power."""
         generators = "name,bus,p_nom,sign\ng,ac,10,1.0\nh,dc,10,\n"

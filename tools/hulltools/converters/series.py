@@ -127,7 +127,8 @@ def sum_of(rows: List[List[Decimal]], periods: int) -> List[Decimal]:
 
 
 def lists_out_negative(demand: List[Decimal], what: str) -> None:
-    t = next((t for t, it in enumerate(demand) if it < 0), None)
+    """Refuses a demand below 0, but for what sums of floating numbers leave of 0 in whole kilowatts."""
+    t = next((t for t, it in enumerate(demand) if kilowatts(it) < 0), None)
     if t is not None:
         raise HullError(f"{what}: demand sums to {demand[t]} MW in period {t + 1}, and hull has none below 0")
 
