@@ -237,6 +237,18 @@ class OfTheUser(Workflow):
             self.assertNotEqual(contents.basis(day, "schedule")["named"], before["named"])
             self.assertEqual(contents.basis(day, "report")["named"], {})
 
+    def test_words_that_limit_a_step_make_nothing_anew(self) -> None:
+        alike = script("contents").are_made_alike
+        for words in ("--gap 0.1 --seconds 240", "--seconds=600 --gap 0.1", "--sec 1 --gap 0.1", "--gap 0.1"):
+            self.assertTrue(alike("schedule", words.split(), ["--gap", "0.1", "--seconds", "30"]), words)
+            self.assertTrue(alike("elmp", words.split(), ["--gap", "0.1"]), words)
+        for words in ("--gap 0.2 --seconds 30", "--gap 0.1 --nodes 30", "--gap --seconds 30"):
+            self.assertFalse(alike("schedule", words.split(), ["--gap", "0.1", "--seconds", "30"]), words)
+        self.assertFalse(alike("convex_hull", ["--within", "1"], []))
+        self.assertFalse(alike("report", ["--seconds", "1"], []))
+        for broken in (None, "--gap 0.1", [1], {}):
+            self.assertFalse(alike("schedule", broken, []), broken)
+
     def test_a_dry_run_changes_nothing(self) -> None:
         self.days("one", "two")
         is_right, said = self.run_all("-n")

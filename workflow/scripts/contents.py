@@ -12,7 +12,7 @@ import tempfile
 import time
 from typing import Any, Callable, Dict, Iterator, List, Mapping, Optional, Tuple
 
-from days import STEPS, Day, Settings
+from days import REPORT, STEPS, Day, Settings
 from hulltools.errors import HullError, one_line, told_with
 
 HIDDEN = ".steps"  # the folder of records and flags
@@ -20,6 +20,8 @@ CHUNK = 1 << 20
 MOST_BYTES = 67_108_864  # (of a file that hull takes)
 MOST_SECONDS_OF_WAIT = 300
 PROGRAM = "program: "  # (begins a line of a mark)
+# Options by which a step makes the same, if it makes it: a schedule that the clock chose isn't taken.
+LIMITS = {"schedule": "--seconds", "elmp": "--seconds", REPORT: "--workers"}
 
 
 def refuse_too_large(name: str) -> None:
@@ -154,12 +156,31 @@ def write_record(name: str, record: Mapping[str, Any]) -> None:
     write_whole(name, (json.dumps(record, indent=1) + "\n").encode())
 
 
+def is_option(word: str, name: str) -> bool:
+    """Whether a word is an option of a tool: `--follow`, `--follow=F`, or with the option cut short."""
+    option = word.partition("=")[0]
+    return len(option) > 2 and name.startswith(option)
+
+
 def values_of(words: List[str], name: str) -> Iterator[str]:
-    """What words give for an option of a tool: `--follow F`, `--follow=F`, or with the option cut short."""
+    """What words give for an option of a tool: `--follow F`, or `--follow=F`."""
     for word, after in zip(words, [*words[1:], ""]):
-        option, mark, value = word.partition("=")
-        if len(option) > 2 and name.startswith(option):
-            yield value if mark else after
+        if is_option(word, name):
+            yield word.partition("=")[2] if "=" in word else after
+
+
+def words_without(words: List[str], name: str) -> List[str]:
+    """The words but for an option of a tool and its value."""
+    pairs = zip(["", *words], words)
+    return [it for before, it in pairs if not is_option(it, name) and ("=" in before or not is_option(before, name))]
+
+
+def are_made_alike(step: str, words: object, others: List[str]) -> bool:
+    """Whether a step makes the same by the words of a record as by others."""
+    if not isinstance(words, list) or not all(isinstance(it, str) for it in words):
+        return False
+    name = LIMITS.get(step)
+    return words == others or name is not None and words_without(words, name) == words_without(others, name)
 
 
 def named_sums(day: Day, step: str) -> Dict[str, Optional[str]]:
@@ -192,7 +213,7 @@ def why_not_current(day: Day, step: str) -> Optional[str]:
     for what, found in input_sums(day, step).items():
         if record.get("of", {}).get(what) != found or found is None:
             return f"{STEPS[step].makes[0]} was made of another {what}"
-    if record.get("words") != day.settings.words_of(step):
+    if not are_made_alike(step, record.get("words"), day.settings.words_of(step)):
         return f"{STEPS[step].makes[0]} was made with other words"
     if record.get("named", {}) != named_sums(day, step):
         return f"{STEPS[step].makes[0]} was made of other files that its words name"
