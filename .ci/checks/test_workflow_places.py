@@ -249,6 +249,18 @@ class OfTheUser(Workflow):
         for broken in (None, "--gap 0.1", [1], {}):
             self.assertFalse(alike("schedule", broken, []), broken)
 
+    def test_what_takes_a_schedule_that_is_to_be_made_anew_is_not_in_the_table(self) -> None:
+        summary, days = script("summary"), script("days")
+        day = days.Day("one", days.Settings(lists=["lmp"]))
+        steps = ["schedule", "lmp", "report", "audit"]
+        told = {"schedule": "schedule.json was made with other words"}
+        with unittest.mock.patch.object(summary, "why_left", lambda _, step: told.get(step)):
+            found = summary.whys_left(day, steps)
+            self.assertEqual([found[it] for it in steps], [told["schedule"], *["waits for the schedule"] * 3])
+            told = {"report": "no report.txt"}
+            found = summary.whys_left(day, steps)
+            self.assertEqual([found[it] for it in steps], [None, None, "no report.txt", "waits for the report"])
+
     def test_a_dry_run_changes_nothing(self) -> None:
         self.days("one", "two")
         is_right, said = self.run_all("-n")

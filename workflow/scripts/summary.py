@@ -9,7 +9,7 @@ Status 1 where a day is left. What counts is what the files hold: a result of ot
 import os
 import sys
 from dataclasses import dataclass, field, replace
-from typing import List, Optional, Tuple
+from typing import Dict, List, Optional, Tuple
 
 # (`python3 -I` and PYTHONSAFEPATH leave the folder out)
 sys.path.insert(0, os.path.dirname(os.path.realpath(__file__)))
@@ -103,6 +103,15 @@ def why_left(day: Day, step: str) -> Optional[str]:
     return f"waits for the {waits[0]}" if waits else why
 
 
+def whys_left(day: Day, steps: List[str]) -> Dict[str, Optional[str]]:
+    """Why each step isn't done, or None; nothing is that takes what a step left before it is to make anew."""
+    found: Dict[str, Optional[str]] = {}
+    for step in steps:
+        waits = next((what for what in STEPS[step].takes if found.get(what) is not None), None)
+        found[step] = why_left(day, step) or (f"waits for the {waits}" if waits else None)
+    return found
+
+
 def priced(day: Day, name: str, file: str, audited: Optional[bool] = None) -> Priced:
     """What a settlement or a report says, without its lists by period."""
     text = read_output(file, ("hull-settlement 1", "hull-report 1"))
@@ -123,7 +132,7 @@ def barred_folders(day: Day) -> List[str]:
 
 def add_day(summary: Summary, day: Day, steps: List[str]) -> None:
     """Adds the price lists of a day that are of the files that lie there, and what is left of it."""
-    why = {step: why_left(day, step) for step in steps}
+    why = whys_left(day, steps)
     summary.left += [(day.name, f"{step}: {told}") for step, told in why.items() if told is not None]
     if any(why.values()):
         summary.left += [(day.name, f"{one_line(it)} may not be written by this user") for it in barred_folders(day)]
