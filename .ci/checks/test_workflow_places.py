@@ -261,6 +261,10 @@ class OfTheUser(Workflow):
             found = summary.whys_left(day, steps)
             self.assertEqual([found[it] for it in steps], [None, None, "no report.txt", "waits for the report"])
 
+    def test_profiles_of_snakemake_8_go_by_the_flags_alone(self) -> None:
+        for name in ("here", "slurm8"):
+            self.assertIn("\nrerun-triggers: mtime\n", read(f"{PROFILES}/{name}/config.yaml").decode(), name)
+
     def test_a_dry_run_changes_nothing(self) -> None:
         self.days("one", "two")
         is_right, said = self.run_all("-n")
