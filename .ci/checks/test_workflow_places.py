@@ -261,6 +261,17 @@ class OfTheUser(Workflow):
             found = summary.whys_left(day, steps)
             self.assertEqual([found[it] for it in steps], [None, None, "no report.txt", "waits for the report"])
 
+    def test_a_report_of_a_schedule_that_is_to_be_made_anew_is_not_in_the_table(self) -> None:
+        summary, days = script("summary"), script("days")
+        day = days.Day("one", days.Settings(days=f"{self.room}/given", results=f"{self.room}/results"))
+        os.makedirs(day.given)
+        write(f"{day.given}/report.txt", RIGHT.decode())
+        for why, count in (("schedule.json was made with other words", 0), (None, 1)):
+            found = summary.Summary()
+            with unittest.mock.patch.multiple(summary, why_left=lambda *_: why, is_marked=lambda _: True):
+                summary.add_day(found, day, ["schedule", "audit"])
+            self.assertEqual(len(found.priced), count)
+
     def test_profiles_of_snakemake_8_go_by_the_flags_alone(self) -> None:
         for name in ("here", "slurm8"):
             self.assertIn("\nrerun-triggers: mtime\n", read(f"{PROFILES}/{name}/config.yaml").decode(), name)

@@ -141,7 +141,7 @@ def add_day(summary: Summary, day: Day, steps: List[str]) -> None:
         summary.left.append((day.name, why_out))
     made = [step for step in steps if why[step] is None]
     found = [priced(day, name, day.made(f"{name}.settlement.txt")) for name in LISTS if name in made]
-    if REPORT in made or day.is_given(REPORT) and is_marked(day):
+    if REPORT in made or day.is_given(REPORT) and is_marked(day) and not why.get("schedule"):
         found.append(priced(day, REPORT, day.path("report"), is_marked(day)))
         found[-1].auditor = auditor(day)
     least = certified_least(day) if "convex_hull" in made else None
