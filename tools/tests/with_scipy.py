@@ -381,7 +381,11 @@ class Study(unittest.TestCase):
         names = os.listdir(f"{self.room}/st")
         self.assertEqual(("lmp.prices.json" in names, "convex_hull.prices.json" in names), (True, False))
         status, _, said = run("study.py", *given[:1], f"{self.room}/none", *given[2:], "--hull", self.killed("settle"))
-        self.assertEqual((status, said.splitlines()[-1]), (1, "study.py: hull settle ended with status -9"))
+        self.assertEqual(status, 1)
+        kept = re.fullmatch(
+            "study.py: hull settle ended with status -9; what was made is in (.*)", said.splitlines()[-1]
+        )
+        self.assertIn("best.schedule.json", os.listdir(kept[1]))
 
     def test_lists_of_files_and_of_the_search(self):
         posted = f"{self.room}/posted.json"
