@@ -369,7 +369,7 @@ def study(
     """
     need_scipy()
     said = in_words_of_a_call(tell)
-    from .commands.study import inputs_of, need_lists, study_of, write_study
+    from .commands.study import inputs_of, kept_where_interrupted, need_lists, study_of, write_study
     from .study_folder import StudyFolder
 
     with contextlib.ExitStack() as until_done:
@@ -393,11 +393,13 @@ def study(
             asked = asked_of(words, options)
         program = Hull(hull, tell, asked.seconds)
         with told_to(tell), told_of_a_call(), room.told(), StudyFolder(to, inputs_of(asked)) as place_of:
-            found = study_of(asked, words, program, place_of.room, said, place_of.refuse)
-            if folder is None:
-                need_lists(found)
-            else:
-                write_study(found, place_of, said)
+            with kept_where_interrupted(place_of, said) if folder is not None else contextlib.nullcontext():
+                found = study_of(asked, words, program, place_of.room, said, place_of.refuse)
+                if folder is None:
+                    need_lists(found)
+                else:
+                    write_study(found, place_of)
+            if folder is not None:
                 place_of.place(found.unfinished)
     if found.interrupted:
         raise found.interrupted

@@ -27,7 +27,7 @@ from hulltools.telling import CLEAR, Teller
 DEAR = f"{EXAMPLES}/dear_schedule"
 GIVEN = [f"{DEAR}/case.json", "st", "--schedule", f"{DEAR}/schedule.json", "--no-schedule"]
 STUCK = """#!/bin/sh
-[ "$1" != {command} ] || [ $# -lt 2 ] || {{ echo $$ > {room}/stuck; exec sleep 600; }}
+[ "$1" != {command} ] || {{ [ $# -lt 2 ] && [ "$1" != version ]; }} || {{ echo $$ > {room}/stuck; exec sleep 600; }}
 exec {program} "$@"
 """
 
@@ -441,12 +441,15 @@ class Studies(Room):
         self.assertEqual(self.kept_room(said), ["schedule.json"])
 
     def test_a_schedule_that_was_made_stays_behind_an_interrupt(self) -> None:
-        with self.begun(*GIVEN[:2], "--hull", self.program("settle")) as ran:
-            self.stuck()
-            ran.send_signal(signal.SIGTERM)
-            said = ran.communicate(timeout=300)[1]
-        self.assertEqual(ran.returncode, -signal.SIGTERM, said)
-        self.assertEqual(self.kept_room(said), ["schedule.json"])
+        for command in ("settle", "version"):
+            with self.begun(*GIVEN[:2], "--hull", self.program(command)) as ran:
+                self.stuck()
+                ran.send_signal(signal.SIGTERM)
+                said = ran.communicate(timeout=300)[1]
+            self.assertEqual(ran.returncode, -signal.SIGTERM, said)
+            self.assertEqual(self.kept_room(said), ["schedule.json"])
+            shutil.rmtree(f"{self.room}/st")
+            os.remove(f"{self.room}/stuck")
 
     def test_a_kill_leaves_the_old_folder_and_no_process(self) -> None:
         self.run_study("--skip", "elmp,relaxation")
@@ -470,6 +473,14 @@ class Studies(Room):
         self.assertEqual(ran.returncode, 1, said)
         self.assertIn("study.py: case.json was changed meanwhile", said)
         self.assertFalse(os.path.exists(f"{self.room}/st"))
+
+    def test_prices_that_are_changed_meanwhile_are_those_that_were_read(self) -> None:
+        hull, prices = f"{self.room}/changing.sh", f"{self.room}/posted.json"
+        write(prices, '{"energy": [30]}')
+        write(hull, f'#!/bin/sh\n[ "$1" != settle ] || echo "{{" >{prices}\nexec {PROGRAM} "$@"\n')
+        os.chmod(hull, 0o755)
+        self.run_study("--prices", "posted=posted.json", "--skip", "elmp,relaxation,convex_hull", hull=hull)
+        self.assertEqual(read(f"{self.room}/st/posted.prices.json"), '{"energy": [30], "reserve": [0]}\n')
 
     def test_prices_of_a_case_that_is_changed_meanwhile_are_refused(self) -> None:
         hull = f"{self.room}/changing.sh"

@@ -50,7 +50,7 @@ from __future__ import annotations
 import argparse
 import contextlib
 import os
-from collections.abc import Callable, Sequence
+from collections.abc import Callable, Iterator, Sequence
 from dataclasses import dataclass, replace
 from types import SimpleNamespace
 from typing import TYPE_CHECKING, Optional, Type
@@ -225,7 +225,9 @@ def study_of(
     """
     from ..studies import Maker, Study, files_of
 
-    date, before = date_of_run(), sums_of_files(inputs_of(given))
+    # (prices and zones are read here alone, and the program reads these again and again)
+    read_again = [it for it in (given.case, given.schedule, given.best_schedule) if it]
+    date, before = date_of_run(), sums_of_files(read_again)
     case = read_case(given.case)
     want = wanted(given, case)
     look(files_of(want, not given.schedule, bool(given.schedule and not given.best_schedule and not given.no_schedule)))
@@ -267,13 +269,22 @@ def write_results(study: Study, room: str) -> None:
         write_together({os.path.join(room, name): text for name, text in {**texts, "study.html": page}.items()})
 
 
-def write_study(study: Study, folder: StudyFolder, tell: Tell) -> None:
+def write_study(study: Study, folder: StudyFolder) -> None:
     """Writes what the folder is to have. Without a list of prices a schedule that was made is kept: its search may have taken hours."""
-    if study.interrupted and not study.lists and folder.has_work():
-        tell(f"interrupted before there was a list of prices; {folder.kept_room()}")
     with folder.keeping():
         need_lists(study)
         write_results(study, folder.room)
+
+
+@contextlib.contextmanager
+def kept_where_interrupted(folder: StudyFolder, tell: Tell) -> Iterator[None]:
+    """Keeps what was made, as a schedule, where an interrupt comes before the study is written; a line says where it is."""
+    try:
+        yield
+    except KeyboardInterrupt:
+        if folder.is_begun and folder.has_work():
+            tell(f"interrupted before the study was written; {folder.kept_room()}")
+        raise
 
 
 def inputs_of(given: argparse.Namespace) -> list[str]:
@@ -287,9 +298,10 @@ def study_in(folder: StudyFolder, given: argparse.Namespace, words: Sequence[str
     with step("looking at the files"):
         warnings = first_look({what: name for what, name in names.items() if name}, tell)
     with contextlib.ExitStack() as until_written:
-        study = study_of(given, words, hull, folder.room, tell, folder.refuse, until_written)
-        study.notes += warnings
-        write_study(study, folder, tell)
+        with kept_where_interrupted(folder, tell):
+            study = study_of(given, words, hull, folder.room, tell, folder.refuse, until_written)
+            study.notes += warnings
+            write_study(study, folder)
         folder.place(study.unfinished)
     return study
 
