@@ -886,6 +886,17 @@ class Sweep(unittest.TestCase):
             self.assertEqual(file.read(), before[:-9].replace(b"250", b"1"))
         self.assertNotIn("it is done", self.sweep("--demand=+2%", "--", "--within", "0.5")[1])
 
+    def test_a_program_behind_the_other_words_is_that_of_the_whole_sweep(self):
+        log, name = f"{os.path.dirname(self.room)}/log", f"{os.path.dirname(self.room)}/noted.sh"
+        with open(name, "w", encoding="utf-8") as file:
+            file.write(f'#!/bin/sh\necho $1 >> {log}\nexec {PROGRAM} "$@"\n')
+        os.chmod(name, 0o755)
+        words = ["--", "--skip", "elmp,relaxation", "--hull", name]
+        status, _, said = run("sweep.py", *files("dear_schedule")[:1], self.room, *words)
+        self.assertEqual(status, 0, said)
+        with open(log, encoding="utf-8") as file:
+            self.assertLessEqual({"check", "settle", "convex", "certify"}, set(file.read().split()))
+
     def test_without_a_place_for_a_key_all_is_made_anew_and_told(self):
         place = f"{os.path.dirname(self.room)}/none"
         with open(place, "w", encoding="utf-8"):

@@ -84,6 +84,7 @@ def arguments(words: Sequence[str]) -> argparse.Namespace:
     place = words.index("--") if "--" in words else len(words)
     given = ask.parse_args(words[:place])
     given.more = list(words[place + 1 :]) + (["--hull", given.hull] if given.hull else [])
+    given.hull = study_arguments([given.case, given.folder, *given.more]).hull  # (which may stand behind -- too)
     return given
 
 
