@@ -232,7 +232,7 @@ class Look:
     def look_at_units(self, root: Node) -> None:
         """The thermal units that are in form, whatever else is wrong."""
         units = self.case.thermal if self.case else readable_units(root)
-        check = CostCheck.of(units, self.limits.highest_cost)
+        check = CostCheck.of(units, self.limits.highest_cost, self.limits.hours)
         nodes = root.members["thermal_generators"].members if units else {}
         for unit in units:
             node = nodes[unit.name]
@@ -270,7 +270,7 @@ class Look:
             if rows:
                 self.review.costs = sum((cost for _, cost in rows[1:]), rows[0][1])
         group = root.members["thermal_generators"]
-        found = falls_of(case.thermal, costs)
+        found = falls_of(case.thermal, costs, self.limits.hours)
         for fall in found:
             odd = fall.oddity
             self.warn("case", odd, group.members[fall.unit.name].members[odd.field], ("thermal", fall.unit.name))
@@ -289,7 +289,8 @@ class Look:
         self.faults("prices", prices_faults(root, shape.periods))
         if self.case is None or self.read["prices"].faults or len(self.review.findings) > before:
             return
-        for odd in price_oddities(prices_of(self.names["prices"], plain(root), shape.periods), self.case):
+        prices = prices_of(self.names["prices"], plain(root), shape.periods)
+        for odd in price_oddities(prices, self.case, self.limits.hours):
             self.warn("prices", odd, root.members[odd.key])
         if "reserve" not in root.members and any(self.case.reserves):
             text = "the case requires reserve, and there is no list `reserve`: all reserve prices are 0 then"

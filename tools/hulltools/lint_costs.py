@@ -31,14 +31,15 @@ def middle(numbers: List[Fraction]) -> Optional[Fraction]:
 
 @dataclass
 class CostCheck:
-    """What costs are held against: the highest marginal cost in the currency per MWh, and the middle of the units' average costs."""
+    """What costs are held against: the highest marginal cost in the currency per MWh, how long a period is, and the middle of the units' average costs."""
 
     highest: float
+    hours: float
     usual: Optional[Fraction]
 
     @staticmethod
-    def of(units: List[Thermal], highest: float) -> CostCheck:
-        return CostCheck(highest, middle([it for it in map(average, units) if it is not None and it > 0]))
+    def of(units: List[Thermal], highest: float, hours: float) -> CostCheck:
+        return CostCheck(highest, hours, middle([it for it in map(average, units) if it is not None and it > 0]))
 
     def oddities(self, unit: Thermal) -> Iterator[Oddity]:
         yield from two_costs(unit)
@@ -54,7 +55,7 @@ class CostCheck:
         (at, cost), last = unit.points[0], unit.points[-1]
         if mean is None or not all(0 < it <= self.highest * 1e6 for it in costs) or last[0] <= 1000:
             return None
-        share = Fraction(FLAT if mean < LOW else FLATTEST)
+        share = Fraction(FLAT if mean < LOW * self.hours else FLATTEST)
         is_flat = at < last[0] and Fraction(last[1] - cost, last[0] - at) < mean * share
         is_cheap = self.usual is not None and mean < self.usual * Fraction(CHEAP)
         if not is_cheap and not is_flat:
@@ -63,7 +64,7 @@ class CostCheck:
         return Oddity(
             "cost-per-mwh",
             KEY,
-            f"its cost at {megawatts(last[0])} is {per}, {per_mwh(float(mean))} per MWh: are its costs per MWh? `cost` is what a whole "
+            f"its cost at {megawatts(last[0])} is {per}, {per_mwh(float(mean), self.hours)} per MWh: are its costs per MWh? `cost` is what a whole "
             f"period at that power costs: {megawatts(last[0])} at {per} per MWh cost {money(last[1] * last[0] // 1000)} an hour",
         )
 
@@ -75,10 +76,10 @@ class CostCheck:
             yield Oddity(
                 "negative-cost",
                 KEY,
-                f"from {megawatts(low[0])} to {megawatts(low[1])} a further MWh costs {per_mwh(float(low[2]))}, below 0. "
+                f"from {megawatts(low[0])} to {megawatts(low[1])} a further MWh costs {per_mwh(float(low[2]), self.hours)}, below 0. "
                 "`cost` is what a whole period at that power costs, and rises with power",
             )
-        mean, bound = average(unit), self.highest * 1e3
+        mean, bound = average(unit), self.highest * 1e3 * self.hours
         is_high = bool(high and high[2] > bound)
         if is_high or not found and mean is not None and mean > bound:
             where = f"from {megawatts(high[0])} to {megawatts(high[1])} a further MWh" if high and is_high else "a MWh"
@@ -86,8 +87,8 @@ class CostCheck:
             yield Oddity(
                 "high-cost",
                 KEY,
-                f"{where} costs {per_mwh(float(slope or 0))}, above {self.highest:,g} (--highest-cost). Are its costs in cents, or its powers in "
-                "gigawatts? Costs are in the currency, powers in megawatts",
+                f"{where} costs {per_mwh(float(slope or 0), self.hours)}, above {self.highest:,g} (--highest-cost). Are its costs in cents, or its "
+                "powers in gigawatts? Costs are in the currency, powers in megawatts",
             )
 
 
@@ -127,6 +128,7 @@ class Fall:
 
     unit: Thermal
     cost: Optional[CurveCosts]
+    hours: float
 
     @property
     def effect(self) -> float:
@@ -149,8 +151,8 @@ class Fall:
         return Oddity(
             "falling-slopes",
             KEY,
-            f"at {megawatts(at)} the cost of a further MWh falls from {per_mwh(float(before))} to {per_mwh(float(after))}. hull takes the "
-            f"envelope of the points: {money(taken)} at {megawatts(power)} in place of {money(given)}{scheduled}",
+            f"at {megawatts(at)} the cost of a further MWh falls from {per_mwh(float(before), self.hours)} to {per_mwh(float(after), self.hours)}. "
+            f"hull takes the envelope of the points: {money(taken)} at {megawatts(power)} in place of {money(given)}{scheduled}",
         )
 
 
@@ -159,9 +161,9 @@ def steps(cost: CurveCosts) -> Tuple[Fraction, Fraction]:
     return cost.straight - cost.convex, cost.convex - cost.whole
 
 
-def falls_of(units: List[Thermal], costs: Dict[str, CurveCosts]) -> List[Fall]:
+def falls_of(units: List[Thermal], costs: Dict[str, CurveCosts], hours: float) -> List[Fall]:
     """The units whose slopes fall, those on which the envelope takes off most first."""
-    return sorted((Fall(it, costs.get(it.name)) for it in units if falls(it)), key=lambda it: -it.effect)
+    return sorted((Fall(it, costs.get(it.name), hours) for it in units if falls(it)), key=lambda it: -it.effect)
 
 
 def falling_in_sum(count: int, cost: Optional[CurveCosts]) -> str:

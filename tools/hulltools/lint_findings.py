@@ -59,9 +59,9 @@ def megawatts(power: float) -> str:
     return f"{power / 1e3:,.3f}".rstrip("0").rstrip(".") + " MW"
 
 
-def per_mwh(slope: float) -> str:
-    """Millionths per kilowatt as the currency per MWh, for people."""
-    return f"{slope / 1e3:,.2f}"
+def per_mwh(slope: float, hours: float) -> str:
+    """Millionths per kilowatt and period, which has so many hours, as the currency per MWh, for people."""
+    return f"{slope / 1e3 / hours:,.2f}"
 
 
 def ranges(numbers: Iterable[int]) -> str:

@@ -136,18 +136,19 @@ def reserve_oddities(case: Case, bounds: Bounds, short: List[int]) -> Iterator[S
         )
 
 
-def price_oddities(prices: Prices, case: Case) -> Iterator[SystemOddity]:
+def price_oddities(prices: Prices, case: Case, hours: float) -> Iterator[SystemOddity]:
     """Prices of another unit of measure, and reserve prices that aren't there though reserve is required."""
-    usual, highest = CostCheck.of(case.thermal, 0).usual, max(prices.energy)
+    usual, highest = CostCheck.of(case.thermal, 0, hours).usual, max(prices.energy)
     if usual is None:
         return
-    cost = f"a MWh of the median unit costs {per_mwh(float(usual))} at full load"
+    cost = f"a MWh of the median unit costs {per_mwh(float(usual), hours)} at full load"
+    per = "per MWh" if hours == 1 else "per MW and period"
     if 0 < highest < usual / 50:
         yield SystemOddity(
             "prices-per-kwh",
             "energy",
-            f"the highest energy price is {highest / 1e3:g}, and {cost}: are these prices per kWh? Prices are per MWh, so {highest / 1e3:g} per "
-            f"kWh is {highest:g}",
+            f"the highest energy price is {highest / 1e3:g}, and {cost}: are these prices per kWh? Prices are {per}, so {highest / 1e3:g} per "
+            f"kWh is {highest * hours:g}",
         )
     middle = sorted(prices.energy)[len(prices.energy) // 2]
     if middle > 50 * usual:
@@ -155,7 +156,7 @@ def price_oddities(prices: Prices, case: Case) -> Iterator[SystemOddity]:
             "prices-too-high",
             "energy",
             f"half of the energy prices are at least {middle / 1e3:,g}, and {cost}: are these in cents or thousandths? Prices are in the case's currency "
-            "per MWh",
+            f"{per}",
         )
 
 

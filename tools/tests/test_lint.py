@@ -19,7 +19,7 @@ from tool import EXAMPLES, PROGRAM, ROOT, run
 
 from hulltools.errors import HullError
 from hulltools.json_places import located, plain
-from hulltools.lint import first_look, look
+from hulltools.lint import Limits, first_look, look
 from hulltools.lint_findings import Level, ranges
 
 Change = Callable[[Dict[str, Any]], Any]
@@ -401,6 +401,30 @@ class TwoCosts(unittest.TestCase):
             self.assertEqual(len(found), len(due), found)
             for finding, text in zip(found, due):
                 self.assertIn(text, finding.text)
+
+
+class Quarters(unittest.TestCase):
+    """A period of a quarter of an hour: costs are told per MWh, four times those of a period."""
+
+    def look(self, hours: float) -> List[Tuple[str, str]]:
+        with tempfile.TemporaryDirectory(prefix="hull-lint-") as room:
+            case = market.case()
+            case["thermal_generators"]["GT6"]["piecewise_production"] = points((20, 8000), (80, 32000))
+            with open(f"{room}/case.json", "w", encoding="utf-8") as file:
+                json.dump(case, file)
+            with open(f"{room}/prices.json", "w", encoding="utf-8") as file:
+                json.dump({"energy": [0.1] * 24, "reserve": [0] * 24}, file)
+            review = look({it: f"{room}/{it}.json" for it in ("case", "prices")}, Limits(hours=hours))
+        return [(it.rule, it.text) for it in review.findings if it.rule in ("high-cost", "prices-per-kwh")]
+
+    def test_costs_are_told_per_mwh(self) -> None:
+        (rule, told), (_, of_prices) = self.look(0.25)
+        self.assertEqual(rule, "high-cost")
+        self.assertIn("from 20 MW to 80 MW a further MWh costs 1,600.00, above 1,000", told)
+        self.assertIn("Prices are per MW and period, so 0.1 per kWh is 25", of_prices)
+        (rule, of_prices), *others = self.look(1)
+        self.assertEqual((rule, others), ("prices-per-kwh", []))
+        self.assertIn("Prices are per MWh, so 0.1 per kWh is 100", of_prices)
 
 
 class Lines(WithFiles):
