@@ -31,10 +31,11 @@ NEAR = 0.75  # how like another name is that is most likely meant
 OF_A_MERGE = re.compile("_[xy]\\Z")  # what pandas puts behind a column that both frames have
 JULIA: Dict[str, Tuple[str, ...]] = {
     "on": ("Is on",),
-    "power": ("Production (MW)", "Thermal production (MW)", "Profiled production (MW)"),
+    "power": ("Production (MW)", "Thermal production (MW)", "Profiled production (MW)", "Price-sensitive loads (MW)"),
     "reserve": ("Reserve (MW)",),
 }
-EGRET: Dict[str, Tuple[str, ...]] = {"on": ("commitment",), "power": ("pg", "p"), "reserve": ("rg", "headroom")}
+# (EGRET's `headroom` is what a unit could give beside, whether it is reserve or not)
+EGRET: Dict[str, Tuple[str, ...]] = {"on": ("commitment",), "power": ("pg", "p"), "reserve": ("spinning_supplied", "rg")}
 PLAIN: Dict[str, Tuple[str, ...]] = {"on": ("on",), "power": ("power",), "reserve": ("reserve",)}
 SPINNING = "Spinning reserve (MW)"  # of UnitCommitment.jl: by product, and then by unit
 KINDS = {  # of the units that a member of a file names
@@ -42,6 +43,7 @@ KINDS = {  # of the units that a member of a file names
     "Thermal production (MW)": "thermal",
     "renewable": "renewable",
     "Profiled production (MW)": "renewable",
+    "Price-sensitive loads (MW)": "bid",
     "bids": "bid",
 }
 

@@ -222,6 +222,23 @@ class Csv(WithRoom):
             self.write(f"csv/{name}", "")
         told = self.convert(folder, f"{self.room}/back.json")[0]
         self.assertEqual(told, "left out: the file ._units.csv\nleft out: the file plants.csv\n")
+        due = "which isn't there? Save it as CSV of that name, or move it away"
+        os.rename(f"{folder}/starts.csv", f"{self.room}/starts.csv")
+        for name in ("starts.csv.txt", "Starts.xlsx", "starts.tsv"):
+            self.write(f"csv/{name}", "")
+            told = self.convert(folder, f"{self.room}/back.json", status=1)[1]
+            self.assertEqual(told, f"convert.py: csv/{name}: is it starts.csv, {due}\n")
+            os.remove(f"{folder}/{name}")
+        os.rename(f"{self.room}/starts.csv", f"{folder}/starts.csv")
+        self.write("csv/Starts.xlsx", "")  # (of which the file was made)
+        self.convert(folder, f"{self.room}/back.json")
+
+    def test_files_that_may_be_of_two_cases_are_refused(self) -> None:
+        folder = self.folder()
+        self.write("csv/UNFINISHED.txt", "The files in this folder are those of a run of convert.py that didn't end.\n")
+        told = self.convert(folder, f"{self.room}/back.json", status=1)[1]
+        due = "the files here may be of two cases: write them anew, or take UNFINISHED.txt away"
+        self.assertEqual(told, f"convert.py: csv/UNFINISHED.txt: {due}\n")
 
     def test_no_file_that_is_read_is_replaced(self) -> None:
         folder = self.folder()

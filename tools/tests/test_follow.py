@@ -350,6 +350,11 @@ class Follow(unittest.TestCase):
         made = self.made()
         self.assertEqual((made["thermal"], made["renewable"]), (self.plan["thermal"], self.plan["renewable"]))
         self.assertEqual([made["bids"][f"STEEL{i}"][0] for i in (1, 2, 3)], [40000, 30000, 0])
+        self.assertIn("STEEL1, STEEL2, STEEL3", said)
+        loads = {name: [power / 1e3 for power in powers] for name, powers in made["bids"].items()}
+        other_forms.write_json(f"{self.room}/whole.json", {**solution, "Price-sensitive loads (MW)": loads})
+        status, said = self.follow("whole.json", case="julia.json")
+        self.assertEqual((status, "STEEL" in said, self.made()), (0, False, made), said)
 
     def test_a_solution_of_egret(self) -> None:
         """Of the converted model, where the buyer's power is a load."""
@@ -368,6 +373,17 @@ class Follow(unittest.TestCase):
         self.assertEqual(status, 0, said)
         made = self.made()
         self.assertEqual((made["thermal"], made["renewable"]), (self.plan["thermal"], self.plan["renewable"]))
+        for name, unit in plan["thermal"].items():  # (headroom is no reserve, and the spinning reserve is that of the case)
+            reserve = over_time([0.9 * it for it in unit["reserve"]])
+            units[name].update(headroom=over_time([0] * 24), spinning_supplied=units[name].pop("rg"), rg=reserve)
+        other_forms.write_json(f"{self.room}/spinning.json", model)
+        self.assertEqual(self.follow("spinning.json", "--tolerance", "0", case="egret.json")[0], 0)
+        self.assertEqual(self.made(), made)
+        for name in plan["thermal"]:
+            del units[name]["spinning_supplied"], units[name]["rg"]
+        other_forms.write_json(f"{self.room}/bare.json", model)
+        status, said = self.follow("bare.json", "--tolerance", "0", case="egret.json")
+        self.assertEqual((status, "reserves differ" in said), (0, False), said)
 
     def test_a_solved_network_of_pypsa(self) -> None:
         folder, plan = f"{self.room}/network", self.megawatts()

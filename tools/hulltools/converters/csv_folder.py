@@ -23,6 +23,7 @@ COLUMNS: Dict[str, List[str]] = {
     "windows.csv": ["unit", "period", "commitment"],
 }
 TOOL = "convert.py"
+OTHER_TABLES = (".txt", ".tsv", ".tab", ".xls", ".xlsx", ".ods", ".numbers", ".gz", ".zip")
 NEEDED = ("units.csv", "offers.csv", "hours.csv")
 NAMES = ("unit", "bid")  # columns of names, which may have several lines
 FLAGS = ("must_run", "unit_on_t0", "commitment")
@@ -149,10 +150,24 @@ def by_name(rows: Iterable[Row], column: str, known: Optional[Iterable[str]] = N
         yield row[column], row
 
 
+def refuse_mixed_or_unread(folder: str, there: List[str]) -> None:
+    """Refuses a folder that a run left unfinished, and one with a table in another form where a file that may be left out is due."""
+    if MARK in there:
+        place = one_line(os.path.join(folder, MARK))
+        raise HullError(f"{place}: the files here may be of two cases: write them anew, or take {MARK} away")
+    for file in there:
+        name = f"{file.lower().partition('.')[0]}.csv"
+        if file.lower().endswith(OTHER_TABLES) and name in COLUMNS and name not in there:
+            place = one_line(os.path.join(folder, file))
+            raise HullError(f"{place}: is it {name}, which isn't there? Save it as CSV of that name, or move it away")
+
+
 def look_at_names(folder: str, notes: Notes) -> None:
     """Refuses a file whose name is nearly one that is read, and notes other CSV files."""
     stems = {os.path.splitext(it)[0]: it for it in COLUMNS}
-    for file in sorted(os.listdir(folder) if os.path.isdir(folder) else []):
+    there = sorted(os.listdir(folder) if os.path.isdir(folder) else [])
+    refuse_mixed_or_unread(folder, there)
+    for file in there:
         stem, end = os.path.splitext(file.lower())
         if end != ".csv" or file in COLUMNS:
             continue
