@@ -684,8 +684,11 @@ class Others(WithRoom):
             (made["COAL1"]["ramp_up_limit"], made["COAL1"]["time_up_minimum"], made["COAL1"]["time_up_t0"]),
             (45, 16, 48),
         )
+        # (of 45 MW above the least power, 150 MW, a half)
+        self.assertEqual((made["COAL1"]["ramp_startup_limit"], made["COAL1"]["ramp_shutdown_limit"]), (172.5, 172.5))
         for line in (
-            "changed: periods of 30 minutes: ramps and costs, which the file has per hour, are scaled to a period",
+            "changed: periods of 30 minutes: ramps, costs and the power above the least of starts and stops, which the file has per hour, "
+            "are scaled to a period",
             "changed: polynomial costs are cut into 10 straight pieces (1: CCGT3)",
             "left out: shutdown costs (1: GT5)",
             "left out: generators that aren't in service (1: GT6)",

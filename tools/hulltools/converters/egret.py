@@ -9,6 +9,7 @@ from ..errors import HullError, one_line
 from ..json_texts import is_number
 from .notes import Notes, Object, Taken
 from .series import (
+    NO_LIMIT,
     constant,
     decimal,
     first,
@@ -66,7 +67,7 @@ class Model:
         if self.per_hour != 1:
             notes.changed(
                 f"periods of {length_in_words(60 / self.per_hour)}: "
-                "ramps and costs, which the file has per hour, are scaled to a period"
+                "ramps, costs and the power above the least of starts and stops, which the file has per hour, are scaled to a period"
             )
 
     def case(self) -> Object:
@@ -178,8 +179,8 @@ class Model:
             "power_output_maximum": most,
             "ramp_up_limit": ramp("ramp_up_60min"),
             "ramp_down_limit": ramp("ramp_down_60min"),
-            "ramp_startup_limit": self.edge(unit, name, "startup_capacity", most),
-            "ramp_shutdown_limit": self.edge(unit, name, "shutdown_capacity", most),
+            "ramp_startup_limit": self.edge(unit, name, "startup_capacity", least, most),
+            "ramp_shutdown_limit": self.edge(unit, name, "shutdown_capacity", least, most),
             "time_up_minimum": time("min_up_time"),
             "time_down_minimum": down,
             "power_output_t0": power if power is not None and before["unit_on_t0"] else least * before["unit_on_t0"],
@@ -207,11 +208,13 @@ class Model:
             raise HullError(f"{one_line(name)}, fuel_cost: a number is due, and None is found")
         return found
 
-    def edge(self, unit: Taken, name: str, key: str, most: Decimal) -> Decimal:
-        """The limit of a start or a stop."""
+    def edge(self, unit: Taken, name: str, key: str, least: Decimal, most: Decimal) -> Decimal:
+        """The limit of a start or a stop, of which EGRET scales what is above the least power to a period."""
         found = self.number(unit, name, key, min)
         if found is None:
             self.notes.assumed(f"no {key}: there is no such limit but the ramp", name)
+        elif least < found < NO_LIMIT:
+            found = least + scaled(found - least, 1 / self.per_hour)
         return limit(found, most)
 
     def starts(self, unit: Taken, name: str) -> List[Object]:
