@@ -650,6 +650,11 @@ class Others(WithRoom):
         case, told = self.changed_instance(change)
         self.assertEqual(case["reserves"], [20] * 24)
         self.assertNotIn("reserve", told)
+        self.assertNotIn("format", told)
+
+    def test_other_formats_of_unit_commitment_jl_are_told(self) -> None:
+        told = self.changed_instance(lambda value: value["Parameters"].update({"Version": "0.9"}))[1]
+        self.assertIn("assumed: format 0.9, which isn't known, is read as 0.4", told)
 
     def test_egret(self) -> None:
         other_forms.write_json(f"{self.room}/model.json", other_forms.egret())

@@ -25,6 +25,7 @@ from .series import (
 )
 
 NETWORK = "the network: all units and loads stand at one place"
+VERSIONS = ("0.2", "0.3", "0.4")
 
 
 def is_mine(value: Object) -> bool:
@@ -77,7 +78,10 @@ class Instance:
 
     def drop_parameters(self) -> None:
         taken = self.parameters
-        taken.first("Version", "Scenario name")
+        taken.take("Scenario name")
+        version = taken.take("Version")
+        if version is not None and str(version) not in VERSIONS:
+            self.notes.assumed(f"format {one_line(str(version))}, which isn't known, is read as {VERSIONS[-1]}")
         penalty = "penalties for what isn't met: demand and reserve have to be met"
         taken.drop(penalty, "Power balance penalty ($/MW)")
         weight = taken.take("Scenario weight")
