@@ -26,6 +26,7 @@ from .inputs import (
     GivenSchedule,
     GivenZones,
     as_case,
+    as_checked_case,
     as_prices,
     as_schedule,
     as_zones,
@@ -83,7 +84,7 @@ def make_schedule(
     before = sums_of_files([os.fspath(case)]) if is_name(case) else {}
     with told_to(tell):
         with told_of_a_call():
-            found = search_schedule(as_case(case), limits)
+            found = search_schedule(as_checked_case(case), limits)
         found.checked_cost = program.check(case, found.schedule)
     refuse_changed(before, "search and check are", "there is no schedule")
     return found
@@ -109,7 +110,7 @@ def follow_schedule(
     need_scipy()
     program = Hull(hull, tell)
     program.need("check")
-    read, said = as_case(case), in_words_of_a_call(tell)
+    read, said = as_checked_case(case), in_words_of_a_call(tell)
     followed, name = as_followed(powers, read)
     for names, is_so in (
         (free_units(followed, read), "are free"),
@@ -146,7 +147,7 @@ def integer_relaxation(case: GivenCase, seconds: Optional[float] = SECONDS) -> P
     Raises `CannotBeMet` where the case can't be met, and `OverTime` where the solver takes longer than `seconds`.
     """
     seconds = seconds_option(seconds)
-    read = as_case(case)
+    read = as_checked_case(case)
     need_scipy()
     return relaxed_prices(read, seconds)
 
@@ -369,7 +370,7 @@ def study(
     """
     need_scipy()
     said = in_words_of_a_call(tell)
-    from .commands.study import inputs_of, kept_where_interrupted, need_lists, study_of, write_study
+    from .commands.study import inputs_of, need_lists, study_in, study_of
     from .study_folder import StudyFolder
 
     with contextlib.ExitStack() as until_done:
@@ -393,14 +394,11 @@ def study(
             asked = asked_of(words, options)
         program = Hull(hull, tell, asked.seconds)
         with told_to(tell), told_of_a_call(), room.told(), StudyFolder(to, inputs_of(asked)) as place_of:
-            with kept_where_interrupted(place_of, said) if folder is not None else contextlib.nullcontext():
+            if folder is None:
                 found = study_of(asked, words, program, place_of.room, said, place_of.refuse)
-                if folder is None:
-                    need_lists(found)
-                else:
-                    write_study(found, place_of)
-            if folder is not None:
-                place_of.place(found.unfinished)
+                need_lists(found)
+            else:
+                found = study_in(place_of, asked, words, program, said)
     if found.interrupted:
         raise found.interrupted
     found.notes = list(map(in_a_call, found.notes))

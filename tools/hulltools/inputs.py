@@ -216,6 +216,14 @@ def as_case(given: GivenCase) -> Case:
     return with_plain_numbers(object_of("case", given))
 
 
+def as_checked_case(given: GivenCase) -> Case:
+    """The same, refused where `hull` refuses it: a script may have set members of an object to what can't be."""
+    found = as_case(given)
+    if isinstance(given, dict) or is_name(given):
+        return found
+    return case_of(told("case"), parse(found.text().encode()))
+
+
 def as_schedule(given: GivenSchedule, case: Case) -> Schedule:
     if isinstance(given, dict):
         return schedule_of(told("schedule"), value_of("schedule", given), case)

@@ -53,6 +53,22 @@ def written(kind: str, name: str, key: str, numbers: Any) -> list[int]:
     return [int(number) for number in found]
 
 
+@refused_as("schedule")
+def refuse_more_than_powers(kind: str, name: str, plan: Plan) -> None:
+    """Refuses an off flag or a reserve that a script has set of a renewable unit or a bid, which has powers alone."""
+    for key, usual in (("on", 1), ("reserve", 0)):
+        numbers = written(kind, name, key, getattr(plan, key))
+        odd = next((t for t, number in enumerate(numbers, 1) if number != usual), None)
+        if odd is not None:
+            told = f'the schedule given: {kind} "{one_line(name)}": {key} of period {odd} is {numbers[odd - 1]}'
+            due = (
+                "which a thermal unit alone can have: a power of 0 is off"
+                if key == "on"
+                else "and a thermal unit alone keeps reserve"
+            )
+            raise HullError(f"{told}, {due}", unit=name, period=odd)
+
+
 @dataclass(repr=False, eq=False)
 class Schedule(FieldsAlone):
     """A plan for each unit and bid, by kind and name."""
@@ -85,6 +101,7 @@ class Schedule(FieldsAlone):
             if kind == "thermal":
                 found[kind][name] = {key: written(kind, name, key, getattr(plan, key)) for key in PLAN}
             else:
+                refuse_more_than_powers(kind, name, plan)
                 found.setdefault("bids" if kind == "bid" else kind, {})[name] = written(kind, name, "power", plan.power)
         return found
 

@@ -151,6 +151,17 @@ class Study:
         return best if best.settlement.best.value - first.settlement.best.value >= CENT else first
 
     @property
+    def missed_gaps(self) -> List[str]:
+        """In sentences which searches for a schedule missed their gaps."""
+        sources = (self.provenance.schedule, self.provenance.best_schedule)
+        return [f"A search for a schedule missed its gap: {it.made}." for it in sources if it and not it.is_near]
+
+    @property
+    def is_less(self) -> bool:
+        """Whether the study isn't all that was asked for, as its notes and `missed_gaps` say."""
+        return bool(self.is_short or self.is_far or self.missed_gaps)
+
+    @property
     def unfinished(self) -> str:
         """In a sentence which lists an interrupt left out, if any."""
         return f"Interrupted before these lists were made: {', '.join(self.missing)}." if self.missing else ""
@@ -267,10 +278,11 @@ class Maker:
         wanted, files = self.study.wanted, (self.case_file, self.schedule_file)
         found = self.hull.convex(*files, wanted.within, wanted.rounds)
         text = self.hull.last_text
-        certificate = self.hull.certify(*files, found.prices, found.mixture)
-        names = ("convex.txt", "mixture.json", "certificate.txt")
-        self.write(dict(zip(names, (text, found.mixture.text(), self.hull.last_text))))
-        self.study.certificate = certificate
+        self.write(
+            {"convex.txt": text, "mixture.json": found.mixture.text()}
+        )  # (which stay where no certificate comes)
+        self.study.certificate = self.hull.certify(*files, found.prices, found.mixture)
+        self.write({"certificate.txt": self.hull.last_text})
         self.study.is_far = is_far(found, wanted.within is not None)
         self.add(FAR if self.study.is_far else CONVEX_HULL, found.prices)
         if self.study.is_far:
@@ -342,9 +354,10 @@ class Maker:
             self.say_short(f"{price_list.name} is left out: {why}. Give --seconds more, or --skip {price_list.key}.")
         except (NoOutput, NotOurs):
             raise
-        except HullError as why:
-            self.study.failure = self.study.failure or why
-            self.say_short(f"{price_list.name} is left out: {why.line}.")
+        except (HullError, MemoryError) as error:
+            found = error if isinstance(error, HullError) else HullError("no memory")
+            self.study.failure = self.study.failure or found
+            self.say_short(f"{price_list.name} is left out: {found.line}.")
 
     def say_short(self, told: str) -> None:
         """Tells, and has the page say, what a list isn't that it was to be."""

@@ -314,12 +314,13 @@ class StudyFolder:
         """Keeps the room, with what was made in it, where what is done within can't be done; the error says where it is."""
         try:
             yield
-        except (HullError, OSError) as why:
+        except (HullError, OSError, MemoryError) as why:
             if not (self.is_begun or isinstance(why, Kept)) or not self.has_work():
                 raise
-            told = (
-                why.line if isinstance(why, HullError) else f"{one_line(why.filename or self.folder)}: {why.strerror}"
-            )
+            if isinstance(why, OSError):
+                told = f"{one_line(why.filename or self.folder)}: {why.strerror}"
+            else:
+                told = why.line if isinstance(why, HullError) else "no memory"
             raise (NotOurs if isinstance(why, NotOurs) else HullError)(f"{told}; {self.kept_room()}") from None
 
     def kept_room(self) -> str:

@@ -87,10 +87,7 @@ def notes_of(study: Study) -> str:
             0,
             f"A schedule is known that costs {money(parts.schedule)} less than this one. Each payment below is for this schedule.",
         )
-    for source in (study.provenance.schedule, study.provenance.best_schedule):
-        if source and not source.is_near:
-            found.insert(0, f"A search for a schedule missed its gap: {source.made}.")
-    return "".join(f'<p class="note">{plain(it)}</p>' for it in found)
+    return "".join(f'<p class="note">{plain(it)}</p>' for it in (*study.missed_gaps, *found))
 
 
 def what_saves(known: bool, bounded: bool) -> str:

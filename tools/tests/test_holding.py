@@ -411,6 +411,15 @@ class Studies(Room):
         # (LMP's gap is 1,200.00, worked out in the example's README, and no bound parts it)
         self.assertIn("the gap is 1,200.00: no bound on the dual value says how much of the gap", said)
 
+    def test_what_a_search_found_stays_where_its_certificate_is_interrupted(self) -> None:
+        with self.begun(*GIVEN, "--skip", "elmp,relaxation", "--hull", self.program("certify")) as ran:
+            self.stuck()
+            ran.send_signal(signal.SIGINT)
+            said = ran.communicate(timeout=300)[1]
+        self.assertEqual(ran.returncode, 128 + signal.SIGINT, said)
+        found = {"convex.txt", "mixture.json", "certificate.txt", "convex_hull.prices.json"} & set(self.names())
+        self.assertEqual(found, {"convex.txt", "mixture.json"})
+
     def test_an_interrupt_before_the_first_list_leaves_the_old_folder(self) -> None:
         self.run_study("--skip", "elmp,relaxation")
         before = {name: read(f"{self.room}/st/{name}") for name in self.names()}

@@ -177,6 +177,12 @@ class Studies(InFolder):
             with self.assertRaisesRegex(HullError, due), folder.keeping():
                 raise OSError(28, "No space left on device", "page")
         self.assertEqual(read(f"{folder.room}/table"), "1")
+        with StudyFolder(self.folder) as folder:
+            folder.refuse(["table"])
+            write(f"{folder.room}/table", "1")
+            with self.assertRaisesRegex(HullError, f"^no memory; what was made is in {folder.room}$"), folder.keeping():
+                raise MemoryError
+        self.assertEqual(read(f"{folder.room}/table"), "1")
 
     def test_a_lock_is_no_link(self) -> None:
         self.made(precious="1")

@@ -617,6 +617,16 @@ class Readers(Refusals):
             )
         )
 
+    def test_a_plan_has_what_its_kind_can_have(self):
+        """Its file would be without the flag or the reserve, which were dropped without a word."""
+        for key, number, due in (
+            ("on", 0, "on of period 1 is 0, which a thermal unit alone can have: a power of 0 is off"),
+            ("reserve", 1000, "reserve of period 1 is 1000, and a thermal unit alone keeps reserve"),
+        ):
+            schedule = hulltools.read_schedule(*reversed(USUAL))
+            setattr(schedule.plan("W1"), key, [number])
+            self.check_rows(((schedule.text, f'the schedule given: renewable "W1": {due}'),))
+
     def test_what_is_no_name(self):
         place = "`hull` is the place of the program, and no `int` can be that"
         files = "files is a dict of files' names, by `case`, `schedule`, `prices`, `mixture` and `report`"

@@ -762,6 +762,35 @@ class Calls(unittest.TestCase):
         self.assertEqual(str(hours.index.tz), "UTC+02:00")
         self.assertEqual(hours.tz_convert("Europe/Berlin").index[0], start)
 
+    def test_a_case_that_hull_refuses_is_refused_before_a_solver_sees_it(self):
+        """Its cost points end below its most power; less demand than its least power can't be met either, and that isn't what is told."""
+        case = self.case.scaled(demand=1)
+        case.unit("COAL").most += 1
+        case.demand = [0]
+        for call in (
+            lambda: hulltools.integer_relaxation(case),
+            lambda: hulltools.make_schedule(case, hull=PROGRAM),
+            lambda: hulltools.follow_schedule(case, self.schedule, hull=PROGRAM),
+        ):
+            with self.assertRaises(hulltools.HullError) as found:
+                call()
+            self.assertNotIsInstance(found.exception, hulltools.CannotBeMet)
+            self.assertEqual(found.exception.status, 3)
+            self.assertIn(
+                "piecewise_production doesn't reach from the least to the greatest power", str(found.exception)
+            )
+
+    def test_what_a_call_made_stays_where_it_is_interrupted(self):
+        said = []
+        with tempfile.TemporaryDirectory(prefix="hull-study-") as room:
+            words = {"hull": PROGRAM, "no_schedule": True, "skip": ["elmp", "relaxation", "convex_hull"]}
+            with mock.patch("hulltools.study_page.study_page", side_effect=KeyboardInterrupt):
+                with self.assertRaises(KeyboardInterrupt):
+                    hulltools.study(self.case, self.schedule, f"{room}/st", tell=said.append, **words)
+            due, place = said[-1].split("; what was made is in ")
+            self.assertEqual(due, "interrupted before the study was written")
+            self.assertIn("lmp.settlement.txt", os.listdir(place))
+
     def test_calls_say_what_they_do(self):
         said = []
         with mock.patch.dict(os.environ, HULL_PROGRESS="1"), mock.patch("hulltools.progress.FIRST", 0.0):
@@ -993,6 +1022,13 @@ class Sweep(unittest.TestCase):
             self.assertEqual((status, said.count("it is done"), said.count(told)), due, said)
             self.assertEqual(os.path.exists(lacks), status == 3)
         self.assertEqual(self.gaps(), {"base": 250, "demand +2%": 225})
+
+    def test_a_search_that_missed_its_distance_is_told_by_each_run(self):
+        rest = ["--skip", "elmp,relaxation", "--within", "0", "--rounds", "1"]
+        told = "The search for convex hull prices missed its distance of 0.00"
+        for done in (0, 1):
+            status, said = self.sweep("--", *rest)
+            self.assertEqual((status, said.count("it is done"), told in said), (3, done, True), said)
 
     def test_a_file_of_the_words_that_is_changed_meanwhile(self):
         prices, program = f"{self.room}.p.json", f"{self.room}.sh"

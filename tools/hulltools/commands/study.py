@@ -292,16 +292,19 @@ def inputs_of(given: argparse.Namespace) -> list[str]:
     return [it for it in names if it]
 
 
-def study_in(folder: StudyFolder, given: argparse.Namespace, words: Sequence[str], hull: Hull, tell: Tell) -> Study:
-    """The study, whose files are placed in the folder."""
-    names = {"case": given.case, "schedule": given.schedule}
-    with step("looking at the files"):
-        warnings = first_look({what: name for what, name in names.items() if name}, tell)
-    with contextlib.ExitStack() as until_written:
-        with kept_where_interrupted(folder, tell):
-            study = study_of(given, words, hull, folder.room, tell, folder.refuse, until_written)
-            study.notes += warnings
-            write_study(study, folder)
+def study_in(
+    folder: StudyFolder,
+    given: argparse.Namespace,
+    words: Sequence[str],
+    hull: Hull,
+    tell: Tell,
+    warnings: Sequence[str] = (),
+) -> Study:
+    """The study, whose files are placed in the folder; the warnings are among its notes."""
+    with contextlib.ExitStack() as until_written, kept_where_interrupted(folder, tell):
+        study = study_of(given, words, hull, folder.room, tell, folder.refuse, until_written)
+        study.notes += warnings
+        write_study(study, folder)
         folder.place(study.unfinished)
     return study
 
@@ -311,8 +314,11 @@ def body(words: Sequence[str], tell: Tell) -> int:
     need_scipy()
     hull = Hull(given.hull, tell, given.seconds)
     hull.need("convex")
+    names = {"case": given.case, "schedule": given.schedule}
     with StudyFolder(given.folder, inputs_of(given)) as folder:
-        study = study_in(folder, given, words, hull, tell)
+        with step("looking at the files"):
+            warnings = first_look({what: name for what, name in names.items() if name}, tell)
+        study = study_in(folder, given, words, hull, tell, warnings)
     tell(study.sentence("at"))
     if study.interrupted:
         tell(
@@ -320,8 +326,7 @@ def body(words: Sequence[str], tell: Tell) -> int:
         )
         return study.interrupted.status
     tell(f"{os.path.join(given.folder, 'study.html')} and the tables beside it are written")
-    sources = (study.provenance.schedule, study.provenance.best_schedule)
-    return MISSED_GAP if study.is_short or study.is_far or any(it and not it.is_near for it in sources) else 0
+    return MISSED_GAP if study.is_less else 0
 
 
 def main(words: Optional[Sequence[str]] = None) -> int:

@@ -16,7 +16,7 @@ Each scenario gets a schedule of its own. A scenario that is done stays so: afte
 was made of another case, by other words, by another program or another version of SciPy is made anew. The key by which a run knows its own
 lies in your home; where none can be kept, a line says so, and each run makes all anew. A scenario whose case can't be met is told and left out, with status 1 in the end.
 One of which a list took longer than --seconds, or has prices that were cut, is done too: each run tells it, and ends with status 3.
-Other --seconds make these anew, and no others.
+Other --seconds make these anew, and no others. A search that missed its gap or its distance is told so too.
 A file that no sweep made is refused before anything is made, with status 2; one that was changed since gets another name, which is told.
 The table and picture of the sweep before go first. Where another sweep changes a scenario meanwhile there are none, with status 1. After Ctrl-C, TERM or HUP they have the scenarios that are done, and UNFINISHED.txt says so, with status
 130, 143 or 129; --seconds and --skip behind --
@@ -66,7 +66,7 @@ if TYPE_CHECKING:
 
 SWEEP = "sweep.py"
 CASE, TABLE, DONE = "case.json", "table.csv", "done.json"  # of each scenario
-LACKS = "lacks.txt"  # where a scenario is done without a list that took too long, or with prices that were cut: its study says so here
+LACKS = "lacks.txt"  # where a scenario is done and isn't all that was asked for, as without a list that took too long: its study says so here
 SHORT = 3  # the status where there is a scenario of that kind
 GATHERED = ("sweep.csv", "sweep.svg")
 HINT = "the variable XDG_STATE_HOME may name a folder where it can"
@@ -130,8 +130,9 @@ def write_scenario(place: StudyFolder, study: Study, work: Mark) -> str:
     """Puts the files of a scenario's study in their places, with the mark that it is done if no list has failed; its table."""
     table = lists_table(study).text()
     write_whole(os.path.join(place.room, TABLE), table)
-    if study.is_short:
-        write_whole(os.path.join(place.room, LACKS), "".join(f"{one_line(it)}\n" for it in study.notes))
+    if study.is_less:
+        notes = "".join(f"{one_line(it)}\n" for it in (*study.missed_gaps, *study.notes))
+        write_whole(os.path.join(place.room, LACKS), notes)
     sums = {name: sha256_in(place.room, name) for name in os.listdir(place.room) if name != OWN}
     if study.failure is None:
         of_mark = work if study.is_short else in_any_time(work)
@@ -170,7 +171,7 @@ def table_done(folder: str, work: Mark) -> Optional[str]:
 
 
 def lacks_of(folder: str, work: Mark) -> list[str]:
-    """In sentences what the study of a scenario that is done says of it, where a list took too long or its prices were cut."""
+    """In sentences what the study of a scenario that is done says of it, where it isn't all that was asked for."""
     is_there = LACKS in sums_done(folder, work)
     return (bytes_in(folder, LACKS) or b"").decode("utf-8", "replace").splitlines() if is_there else []
 
@@ -219,7 +220,7 @@ class Sweep:
             str, tuple[str, Mark]
         ] = {}  # by the name of a scenario that is done: its folder, and what it is made of
         self.left_out = 0
-        self.is_short = False  # (whether a scenario that is done lacks a list, or prices of it were cut)
+        self.is_less = False  # (whether a scenario that is done isn't all that was asked for)
 
     @cached_property
     def program(self) -> list[str]:
@@ -250,7 +251,7 @@ class Sweep:
                 self.tell(f"{scenario.name} isn't done: the same words make it anew")
             else:
                 self.works[scenario.name] = folder.folder, work
-                self.is_short = self.is_short or bool(lacks_of(folder.folder, work))
+                self.is_less = self.is_less or bool(lacks_of(folder.folder, work))
         except HullError as why:
             self.left_out += 1
             self.tell(f"{scenario.name} is left out: {why.line}")
@@ -294,7 +295,7 @@ def body(words: Sequence[str], tell: Tell) -> int:
         tell(f"interrupted: {of_all}; the same words {'go on with the others' if goes_on else 'make all anew'}")
         return why.status
     sweep.write()
-    return 1 if sweep.left_out else SHORT if sweep.is_short else 0
+    return 1 if sweep.left_out else SHORT if sweep.is_less else 0
 
 
 def main(words: Optional[Sequence[str]] = None) -> int:
