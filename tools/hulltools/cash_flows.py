@@ -99,12 +99,15 @@ def uplift_by_period(
     case: Case, schedule: Schedule, settlement: Settlement, flows: List[UnitFlows]
 ) -> List[Millionths]:
     """Payments and the worth of surplus reserve, by period; these sum to the gap."""
-    found = []
-    for t, price in enumerate(settlement.best.reserve):
-        kept = sum(schedule.plan("thermal", unit.name).reserve[t] for unit in case.thermal)
-        owed = sum(unit.payment_by_period[t] for unit in flows)
-        found.append(Millionths(owed + price * (kept - case.reserves[t])))
-    return found
+    plans = [schedule.plan("thermal", unit.name) for unit in case.thermal]
+    found = [
+        price * (sum(plan.reserve[t] for plan in plans) - case.reserves[t])
+        for t, price in enumerate(settlement.best.reserve)
+    ]
+    for unit in flows:
+        for t, amount in enumerate(unit.payment_by_period):
+            found[t] += amount
+    return [Millionths(amount) for amount in found]
 
 
 KINDS = {"thermal": "Thermal", "renewable": "Renewable", "bid": "Buyers"}
