@@ -4,6 +4,7 @@ from __future__ import annotations
 import difflib
 import math
 import operator
+import re
 from collections.abc import Iterable, Mapping, Sequence, Set
 from dataclasses import fields
 from datetime import datetime, timedelta
@@ -14,6 +15,7 @@ from .errors import HullError, one_line
 Found = TypeVar("Found")
 MOST_TOLD = 60  # characters of a value
 MOST_SECONDS = 2_000_000  # (the system waits no longer than some weeks)
+UTC = re.compile(r"[zZ]\Z")  # (as a time ends; Python reads it from 3.11 on)
 
 
 def told_value(value: object) -> str:
@@ -88,15 +90,20 @@ def is_list(given: object) -> bool:
     return isinstance(given, Iterable) and not isinstance(given, (str, bytes)) and getattr(given, "ndim", 1) > 0
 
 
-def time_of_label(label: Any) -> Optional[datetime]:
-    """The time that a label of a series is, also as a text that begins with the year; None of another label."""
+def time_of_label(label: Any) -> Any:
+    """The time that a label of a series is, since a date or since another time, also as a text that begins with the year; None of another label."""
     if isinstance(label, str):
         try:
-            return datetime.fromisoformat(label.strip()) if label[4:5] == "-" else None
+            return datetime.fromisoformat(UTC.sub("+00:00", label.strip())) if label[4:5] == "-" else None
         except ValueError:
             return None
     found = getattr(label, "start_time", label)  # (of a period of pandas)
-    return found if isinstance(found, datetime) else None
+    return found if isinstance(found, (datetime, timedelta)) else None
+
+
+def can_be_ordered(times: list[Any]) -> bool:
+    """Whether each is later or earlier than another: all are of one kind, and all or none have a zone."""
+    return len({(isinstance(it, datetime), getattr(it, "tzinfo", None) is None) for it in times}) == 1
 
 
 def refuse_backward(name: str, given: Any) -> None:
@@ -104,11 +111,12 @@ def refuse_backward(name: str, given: Any) -> None:
     index = getattr(given, "index", ())
     times = [] if callable(index) else [time_of_label(it) for it in index]
     known = [it for it in times if it is not None]
-    if len(known) < len(times) or len({it.tzinfo is None for it in known}) != 1:
+    if len(known) < len(times) or not can_be_ordered(known):
         return
     back = [(one, other) for one, other in zip(known, known[1:]) if other < one]
     # (where summer ends, times without an offset go back once, by less than an hour)
-    is_clock = known[0].tzinfo is None and len(back) == 1 and back[0][0] - back[0][1] < timedelta(hours=1)
+    has_clock = isinstance(known[0], datetime) and known[0].tzinfo is None
+    is_clock = has_clock and len(back) == 1 and back[0][0] - back[0][1] < timedelta(hours=1)
     if back and not is_clock:
         one, other = (told_value(it) for it in back[0])
         raise HullError(f"{name}: its times go back from {one} to {other}, and the order of time is due")

@@ -18,7 +18,7 @@ from .costs import Costs
 from .day_lengths import changed_day, example_with_offset, in_parts, length_on_change
 from .numbers import decimal_text
 from .errors import HullError, one_line
-from .options import float_of, is_whole_number, number_option, told_value
+from .options import UTC, float_of, is_whole_number, number_option, told_value
 from .outputs import Convex, Fixed, Owed, Priced, Report, Settlement, Text
 from .schedules import Schedule
 from .telling import is_shown, write_text
@@ -107,7 +107,6 @@ def told_apart_count(tables: dict[str, Table]) -> int:
 
 PER_MW = "_currency_per_mw"
 MOST_HOURS = 10_000
-UTC = re.compile(r"[zZ]\Z")  # (as a time ends; Python reads it from 3.11 on)
 NUMBERS = ("budget", "ahead", "proposals", "chosen", "proposal", "periods", "units", "scheduled_on")  # without an end
 HEADS = {
     "runs": "report command side periods units budget ahead proposals chosen cost:money value:money payments:money "
@@ -249,7 +248,9 @@ def start_of(pandas: Any, start: Start) -> Any:
         found = pandas.NaT
     if found is pandas.NaT:
         raise HullError(f"start is {told_value(start)}: a time is due, as 2026-07-01T00:00")
-    return found
+    zone = getattr(found.tzinfo, "key", None)
+    # (pandas 1 and 2 have both hours of one name where summer ends by a zone's name alone, and not by a ZoneInfo)
+    return found.tz_convert(zone) if zone else found
 
 
 def time_of(start: Any) -> Any:

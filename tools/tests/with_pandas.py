@@ -150,6 +150,7 @@ class Columns(unittest.TestCase):
             self.assertEqual(len(prices.frame(f"{day}+02:00", hours)), periods)
         times = hulltools.per_mwh(30).over(25).frame(datetime(2026, 10, 25, tzinfo=zone)).index
         self.assertEqual((str(times.tz), times.hour[:5].tolist()), ("Europe/Berlin", [0, 1, 2, 2, 3]))
+        self.assertEqual([it.isoformat()[19:] for it in times[1:5]], ["+02:00", "+02:00", "+01:00", "+01:00"])
 
     def test_periods_that_may_be_quarter_hours_have_a_length(self):
         prices = hulltools.per_mwh(30).over(96)
@@ -217,6 +218,9 @@ class Set(unittest.TestCase):
                     hulltools.HullError, f"{name}: its times go back from 2026-.* the order of time is due$"
                 ):
                     call()
+        for times in (pandas.to_timedelta([2, 1, 0], "h"), ["2026-07-01T01:00Z", "2026-07-01T00:00Z"]):
+            with self.assertRaisesRegex(hulltools.HullError, "the energy prices: its times go back from "):
+                hulltools.per_mwh(pandas.Series(range(len(times)), index=times))
 
     def test_series_whose_order_is_sure_are_taken(self):
         """Whole numbers come of sorted and of joined frames; a clock without an offset goes back once, in autumn."""
