@@ -317,6 +317,13 @@ class Words(Workflow):
             self.assertTrue(days.settings_from({"audit": given}).audit, given)
         self.assertEqual(self.refusal(audit="maybe"), "audit: maybe is neither true nor false")
 
+    def test_a_setting_without_a_value_is_refused(self) -> None:
+        """As of a variable of a shell that isn't set; a run of all days without lists would end well."""
+        for nothing in ("", None):
+            self.assertEqual(self.refusal(lists=nothing), "lists: nothing is given; lists=[] makes none")
+        self.assertEqual(self.refusal(only=""), "only: nothing is given: name days, or leave the setting out")
+        self.assertEqual((self.refusal(lists=[]), self.refusal(only=None)), ("", ""))
+
     def test_names_of_days_are_as_they_were_written(self) -> None:
         days = script("days")
         for given, due in (("2026.10", ["2026.10"]), (["a", date(2026, 1, 2)], ["a", "2026-01-02"]), (None, None)):

@@ -35,7 +35,11 @@ JULIA: Dict[str, Tuple[str, ...]] = {
     "reserve": ("Reserve (MW)",),
 }
 # (EGRET's `headroom` is what a unit could give beside, whether it is reserve or not)
-EGRET: Dict[str, Tuple[str, ...]] = {"on": ("commitment",), "power": ("pg", "p"), "reserve": ("spinning_supplied", "rg")}
+EGRET: Dict[str, Tuple[str, ...]] = {
+    "on": ("commitment",),
+    "power": ("pg", "p"),
+    "reserve": ("spinning_supplied", "rg"),
+}
 PLAIN: Dict[str, Tuple[str, ...]] = {"on": ("on",), "power": ("power",), "reserve": ("reserve",)}
 SPINNING = "Spinning reserve (MW)"  # of UnitCommitment.jl: by product, and then by unit
 KINDS = {  # of the units that a member of a file names

@@ -373,7 +373,9 @@ class Follow(unittest.TestCase):
         self.assertEqual(status, 0, said)
         made = self.made()
         self.assertEqual((made["thermal"], made["renewable"]), (self.plan["thermal"], self.plan["renewable"]))
-        for name, unit in plan["thermal"].items():  # (headroom is no reserve, and the spinning reserve is that of the case)
+        for name, unit in plan[
+            "thermal"
+        ].items():  # (headroom is no reserve, and the spinning reserve is that of the case)
             reserve = over_time([0.9 * it for it in unit["reserve"]])
             units[name].update(headroom=over_time([0] * 24), spinning_supplied=units[name].pop("rg"), rg=reserve)
         other_forms.write_json(f"{self.room}/spinning.json", model)

@@ -146,7 +146,9 @@ def audits_folder(given: str) -> str:
 def settings_from(config: Mapping[str, Any]) -> Settings:
     """The settings that a configuration has; HullError where one can't be."""
     refuse_unknown(config)
-    lists = config.get("lists") or []
+    lists = config.get("lists", [])
+    if lists in (None, ""):
+        raise HullError("lists: nothing is given; lists=[] makes none")
     if not isinstance(lists, list):
         raise HullError(f"lists: a list is due, in brackets: lists=[{one_line(lists)}]")
     for name in lists:
@@ -187,6 +189,8 @@ def names_of(given: object) -> Optional[List[str]]:
     """The names of days. A number may have been written otherwise, as 1.10 or 2026_01_01, and a date may not."""
     if given is None:
         return None
+    if given == "":
+        raise HullError("only: nothing is given: name days, or leave the setting out")
     names = given if isinstance(given, list) else [given]
     for name in names:
         if not isinstance(name, str) and type(name) is not date:

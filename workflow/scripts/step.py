@@ -32,6 +32,10 @@ from hulltools.program import MOST_WORK, Hull
 
 Made = Dict[str, bytes]
 PASSING = ("2", "7")  # statuses of what may pass: a file that can't be read, no memory
+SAYS_NOTHING = {
+    **os.environ,
+    "HULL_EXPLAIN": "0",
+}  # (a launcher that explains nothing becomes the program, which ends with the step)
 RIGHT_AUDIT = re.compile(rb"hull-audit 1\nproposals [0-9]+\nright\n")
 
 
@@ -62,7 +66,7 @@ def hull(day: Day, command: str, *more: str, copies: Optional[Dict[str, str]] = 
     given = {"case": day.path("case"), "schedule": day.path("schedule"), **files}
     names = {**given, **(copies or {})}
     words = [command, *(word for key, name in names.items() for word in (f"--{key}", name)), *more]
-    with called([day.settings.program, *words], stdout=subprocess.PIPE) as running:
+    with called([day.settings.program, *words], stdout=subprocess.PIPE, env=SAYS_NOTHING) as running:
         text, said = running.communicate()
     status = running.returncode
     if status == 0:
