@@ -81,18 +81,21 @@ class UnitFlows:
         return [Millionths(best.profit - given.profit) for best, given in zip(self.response, self.scheduled)]
 
 
+def flows_of_line(owed: Owed, unit: Unit, schedule: Schedule, settlement: Settlement, costs: Costs) -> UnitFlows:
+    """The flows of one unit, whose sums are those of its line in a settlement."""
+    lists = (schedule.plan(owed.kind, unit.name), Plan(owed.on, owed.power, owed.reserve))
+    scheduled, response = (flows_of(unit, plan, settlement.prices, costs) for plan in lists)
+    if (total(scheduled).profit, total(response).profit) != (owed.scheduled, owed.earned):
+        raise HullError(
+            f'{settlement.name}: unit "{one_line(unit.name)}" earns something else in this case and schedule'
+        )
+    return UnitFlows(owed, scheduled, response)
+
+
 def unit_flows(case: Case, schedule: Schedule, settlement: Settlement, costs: Costs) -> List[UnitFlows]:
     """The flows of every unit, whose sums are those that `hull settle` prints."""
-    found = []
-    for owed, (kind, unit) in zip(settlement.units, case.units):
-        lists = (schedule.plan(kind, unit.name), Plan(owed.on, owed.power, owed.reserve))
-        scheduled, response = (flows_of(unit, plan, settlement.prices, costs) for plan in lists)
-        if (total(scheduled).profit, total(response).profit) != (owed.scheduled, owed.earned):
-            raise HullError(
-                f'{settlement.name}: unit "{one_line(unit.name)}" earns something else in this case and schedule'
-            )
-        found.append(UnitFlows(owed, scheduled, response))
-    return found
+    lines = zip(settlement.units, case.units)
+    return [flows_of_line(owed, unit, schedule, settlement, costs) for owed, (_, unit) in lines]
 
 
 def uplift_by_period(

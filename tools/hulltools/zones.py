@@ -4,7 +4,7 @@ from dataclasses import dataclass
 from typing import TYPE_CHECKING, Any, Callable, Dict, List, Optional
 
 from .cases import Case
-from .cash_flows import UnitFlows, unit_flows
+from .cash_flows import UnitFlows, flows_of_line
 from .costs import Costs
 from .errors import HullError, Name, one_line
 from .json_texts import read_json
@@ -130,9 +130,9 @@ def settle_zones(settle: Callable[[Prices], Settlement], case: Case, schedule: S
         if zone in used:
             with step(f"zone {zone}"):
                 settlements[zone] = settle(prices)
-    costs = Costs()
+    costs, flows = Costs(), []
     with step("revenue and cost by unit"):
-        flows = {zone: unit_flows(case, schedule, it, costs) for zone, it in settlements.items()}
-    return Zonal(
-        zones, settlements, [flows[zones.zone_of(kind, it.name)][i] for i, (kind, it) in enumerate(case.units)]
-    )
+        for i, (kind, unit) in enumerate(case.units):
+            of_zone = settlements[zones.zone_of(kind, unit.name)]
+            flows.append(flows_of_line(of_zone.units[i], unit, schedule, of_zone, costs))
+    return Zonal(zones, settlements, flows)
