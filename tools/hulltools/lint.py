@@ -226,7 +226,7 @@ class Look:
                 self.add(Finding(Level.ERROR, "case", self.names["case"], str(why)))
         self.look_at_units(root)
         if self.case is not None:
-            for odd in (*period_oddities(self.case.periods), *capacity_oddities(self.case)):
+            for odd in (*period_oddities(self.case.periods, self.limits.hours), *capacity_oddities(self.case)):
                 self.warn("case", odd, root.members[odd.key])
 
     def look_at_units(self, root: Node) -> None:

@@ -2,10 +2,11 @@
 from __future__ import annotations
 
 from dataclasses import dataclass
+from fractions import Fraction
 from typing import Callable, Iterator, List, Optional, Tuple
 
 from .cases import Case
-from .day_lengths import changed_day, is_usual
+from .day_lengths import changed_day, is_usual, length_on_change
 from .json_places import Node, number_at
 from .lint_findings import megawatts, per_mwh, ranges
 from .lint_costs import CostCheck
@@ -24,16 +25,17 @@ class SystemOddity:
     periods: Tuple[int, ...] = ()
 
 
-def period_oddities(periods: int) -> Iterator[SystemOddity]:
-    named = changed_day(periods)
-    if named:
-        yield SystemOddity("changed-day", "time_periods", f"{periods} periods are {named}: is that meant?")
-    elif not is_usual(periods):
-        yield SystemOddity(
-            "odd-periods",
-            "time_periods",
-            f"{periods} {'period is' if periods == 1 else 'periods are'} no whole day: a day has 24 hours, 48 half hours or 96 quarter hours",
-        )
+def period_oddities(periods: int, hours: float) -> Iterator[SystemOddity]:
+    """A number of periods that are no whole days, or days on which clocks change; `hours` is 1 where nobody says how long one is."""
+    named, length = changed_day(periods), Fraction(hours).limit_denominator(3600)
+    told = f"{periods} {'period is' if periods == 1 else 'periods are'}"
+    if named and length in (1, length_on_change(periods)):
+        yield SystemOddity("changed-day", "time_periods", f"{told} {named}: is that meant?")
+    elif length == 1 and not is_usual(periods):
+        usual = "a day has 24 hours, 48 half hours or 96 quarter hours"
+        yield SystemOddity("odd-periods", "time_periods", f"{told} no whole day: {usual}")
+    elif length != 1 and periods * length % 24:
+        yield SystemOddity("odd-periods", "time_periods", f"{told} {float(periods * length):g} hours, and no whole day")
 
 
 class Bounds:

@@ -21,6 +21,7 @@ from hulltools.errors import HullError
 from hulltools.json_places import located, plain
 from hulltools.lint import Limits, first_look, look
 from hulltools.lint_findings import Level, ranges
+from hulltools.lint_system import period_oddities
 
 Change = Callable[[Dict[str, Any]], Any]
 FILES = ("case", "schedule", "prices")
@@ -425,6 +426,24 @@ class Quarters(unittest.TestCase):
         (rule, of_prices), *others = self.look(1)
         self.assertEqual((rule, others), ("prices-per-kwh", []))
         self.assertIn("Prices are per MWh, so 0.1 per kWh is 100", of_prices)
+
+    def test_days_have_as_many_periods_as_their_length_says(self) -> None:
+        for periods, hours, due in (
+            (6, 4, ""),
+            (24, 0.5, "24 periods are 12 hours, and no whole day"),
+            (92, 0.25, "92 periods are a day of 23 hours in quarter hours, on which clocks go forward: is that meant?"),
+            (92, 0.5, "92 periods are 46 hours, and no whole day"),
+            (288, 1 / 12, ""),
+        ):
+            self.assertEqual([odd.text for odd in period_oddities(periods, hours)], [due] * bool(due))
+
+    def test_empty_names_are_refused(self) -> None:
+        """As of a variable of a shell that isn't set."""
+        for words in ([""], [f"{EXAMPLES}/usual/case.json", ""], [f"{EXAMPLES}/usual/case.json", "--prices", ""]):
+            status, _, said = run("lint.py", *words)
+            self.assertEqual(
+                (status, said.strip().endswith("a name is due, and an empty text is given")), (2, True), said
+            )
 
 
 class Lines(WithFiles):

@@ -19,7 +19,7 @@ import json
 from fractions import Fraction
 from typing import Callable, Optional, Sequence
 
-from ..errors import Ends, need_output, run_tool
+from ..errors import Ends, HullError, need_output, run_tool
 from ..lint import Limits, look
 from ..telling import is_shown, write_lines, write_text
 from .words import asker, count, hours, positive
@@ -38,9 +38,16 @@ def body(words: Sequence[str], tell: Callable[[str], None]) -> int:
     ask.add_argument("--most", type=count, default=Limits.most)
     for option in ("all", "json"):
         ask.add_argument(f"--{option}", action="store_true")
-    given = ask.parse_args(words)
+    try:
+        given = ask.parse_args(words)
+    except HullError as why:  # (words that can't be have a status of their own here)
+        ask.error(str(why))
+    named = {it: getattr(given, it) for it in ("case", "schedule", "prices", "mixture")}
+    names = {what: name for what, name in named.items() if name is not None}
+    empty = next((what for what, name in names.items() if not name), None)
+    if empty:
+        ask.error(f"{empty}: a name is due, and an empty text is given")
     need_output()
-    names = {it: getattr(given, it) for it in ("case", "schedule", "prices", "mixture") if getattr(given, it)}
     review = look(names, Limits(given.highest_cost, float(given.hours), given.most))
     if given.json:
         write_text(json.dumps(review.as_json(), ensure_ascii=is_shown(), indent=1) + "\n")
