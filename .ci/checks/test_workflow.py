@@ -424,7 +424,7 @@ class Contents(Workflow):
         self.ends_well(report_words="--proposals 2 --ahead 1 --workers 2")
         self.assert_priced("one")
         self.calls()
-        self.ends_well(report_words="--workers 1 --proposals 2 --ahead 1")
+        self.ends_well(report_words="--workers=1 --proposals 2 --ahead 1")
         self.assertEqual(self.calls(), [], "they make the same")
 
     def test_a_report_that_is_given_and_not_audited_is_told(self) -> None:

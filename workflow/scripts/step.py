@@ -122,7 +122,8 @@ def settlement(day: Day, prices: str) -> bytes:
 
 def report(day: Day, *words: str) -> bytes:
     """A report, by one worker unless the words say how many: its bytes are the same."""
-    workers = () if "--workers" in words else ("--workers", "1")
+    is_given = any(word.partition("=")[0] == "--workers" for word in words)
+    workers = () if is_given else ("--workers", "1")
     text = hull(day, "price", *workers, *words)
     parse_output("hull price", text, ("hull-report 1",))
     return text
