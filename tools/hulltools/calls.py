@@ -79,7 +79,7 @@ def make_schedule(
         number_option("gap", gap, 0), whole_option("nodes", nodes, 1, MOST_NODES), seconds_option(seconds)
     )
     need_scipy()
-    program = Hull(hull, tell)
+    program = Hull(hull, tell, limits.seconds)
     program.need("check")  # (before the search, which would be lost)
     before = sums_of_files([os.fspath(case)]) if is_name(case) else {}
     with told_to(tell):
@@ -108,7 +108,7 @@ def follow_schedule(
     """
     seconds = seconds_option(seconds)
     need_scipy()
-    program = Hull(hull, tell)
+    program = Hull(hull, tell, seconds)
     program.need("check")
     read, said = as_checked_case(case), in_words_of_a_call(tell)
     followed, name = as_followed(powers, read)
@@ -132,11 +132,11 @@ def lmp(
 ) -> Prices:
     """LMPs, in millionths per kilowatt: the duals of the dispatch with the schedule's commitments held.
 
-    Raises `HullError` where the schedule isn't feasible, and `OverTime` where the solver takes longer than `seconds`.
+    Raises `HullError` where the schedule isn't feasible, and `OverTime` where the solver or the program takes longer than `seconds`.
     """
     seconds = seconds_option(seconds)
     need_scipy()
-    Hull(hull).check(case, schedule)
+    Hull(hull, seconds=seconds).check(case, schedule)
     read = as_case(case)
     return held_prices(read, as_schedule(schedule, read), seconds)
 
@@ -166,14 +166,14 @@ def elmp(
 
     Fast-start are the units that `fast_start` names, or else those of a minimum up time of at most `most_up` periods whose dearest start costs
     at most `most_cost`, in the currency. With `online_only` such a unit stays off where the schedule has it off. Raises `HullError` where the
-    case has no unit of a name, or where the schedule isn't feasible, and `OverTime` where the solver takes longer than `seconds`.
+    case has no unit of a name, or where the schedule isn't feasible, and `OverTime` where the solver or the program takes longer than `seconds`.
     """
     seconds, most_up = seconds_option(seconds), whole_option("most_up", most_up, 0, TIME)
     cost = None if most_cost is None else millionths(str(number_option("most_cost", most_cost, 0)))
     if isinstance(fast_start, str):
         raise HullError(f"fast_start is {told_value(fast_start)}: a list of names is due, as [{fast_start!r}]")
     need_scipy()
-    Hull(hull).check(case, schedule)
+    Hull(hull, seconds=seconds).check(case, schedule)
     read = as_case(case)
     fast = FastStart(None if fast_start is None else tuple(fast_start), most_up, cost, online_only)
     return fast_start_prices(read, as_schedule(schedule, read), fast, seconds)

@@ -8,7 +8,7 @@ from typing import Any, Optional, TypeVar
 from .cases import Bid, Case, Renewable, Thermal
 from .errors import HullError, one_line
 from .json_texts import refused_as
-from .options import counted, is_flag, is_list, is_plain_whole, is_whole_number, refuse_backward, told_value
+from .options import counted, is_flag, is_row, is_plain_whole, is_whole_number, refuse_backward, told_value
 
 KILOWATTS, MILLIONTHS = "kilowatts", "millionths"
 PER_KILOWATT = "millionths per kilowatt"
@@ -20,7 +20,7 @@ Found = tuple[str, Any, str, Optional[int]]  # a member, its number, the unit of
 
 
 def items_at(name: str, numbers: Any) -> list[Any]:
-    if not is_list(numbers):
+    if not is_row(numbers):
         raise HullError(f"{name} is {told_value(numbers)}: a list is due")
     refuse_backward(name, numbers)
     return list(numbers)
@@ -98,7 +98,7 @@ def need_whole(where: str, numbers: Iterator[Found], unit: Optional[str] = None)
 def need_names(case: Case) -> None:
     """Refuses a case in which two units of a kind have one name: its file would have the last of them alone."""
     for kind, units in (("thermal", case.thermal), ("renewable", case.renewable), ("bids", case.bids)):
-        if not is_list(units):
+        if not is_row(units):
             raise HullError(f"the case given: {kind} is {told_value(units)}: a list is due")
     seen: set[tuple[str, str]] = set()
     for kind, unit in case.units:

@@ -90,6 +90,11 @@ def is_list(given: object) -> bool:
     return isinstance(given, Iterable) and not isinstance(given, (str, bytes)) and getattr(given, "ndim", 1) > 0
 
 
+def is_row(value: object) -> bool:
+    """Whether it is a list, an array or a series, whose items are its numbers in order: a dict or a data frame would give its keys or columns, and a set has no order."""
+    return is_list(value) and not isinstance(value, (Mapping, Set)) and not hasattr(value, "columns")
+
+
 def time_of_label(label: Any) -> Any:
     """The time that a label of a series is, since a date or since another time, also as a text that begins with the year; None of another label."""
     if isinstance(label, str):
@@ -124,7 +129,7 @@ def refuse_backward(name: str, given: Any) -> None:
 
 def items_of(name: str, given: Any) -> list[Any]:
     """The items of a list by period; what has another shape, or no item, is refused."""
-    if not is_list(given) or isinstance(given, (Mapping, Set)) or getattr(given, "ndim", 1) > 1:
+    if not is_row(given) or getattr(given, "ndim", 1) > 1:
         raise HullError(f"{name}: a list of one number for each period is due, and not {told_value(given)}")
     refuse_backward(name, given)
     found = list(given)
@@ -156,11 +161,6 @@ def is_plain_whole(value: object) -> bool:
     if isinstance(value, (list, tuple)):
         return all(map(is_plain_whole, value))
     return value is None or type(value) is int
-
-
-def is_row(value: object) -> bool:
-    """Whether it is a list, an array or a series, and no dict and no set."""
-    return is_list(value) and not isinstance(value, (Mapping, Set))
 
 
 def are_same(one: Any, other: Any) -> bool:

@@ -34,7 +34,7 @@ from .numbers import Millionths, millionths
 from .options import number_option, seconds_option, told_value, whole_option
 from .outputs import RADIUS, ROUNDS, WITHIN, Certificate, Convex, Report, Settlement, parse_output, read_priced
 from .prices import FlatPrices, Prices, is_text_of_hull, refusal_of_reserve
-from .progress import step
+from .progress import step, told_to
 from .refusals import Held, refusal
 
 MOST_WORK = 50_000_000  # proposals times units times periods that `hull price` takes
@@ -102,7 +102,7 @@ class Hull:
         self.say_if_unbuilt()
         what = " ".join(["hull", *words[:1]])
         try:
-            with step(what):
+            with told_to(None if self.tell is say_nothing else self.tell), step(what):
                 # (however the tool ends, what it called ends with it: a launcher that explains nothing becomes the program)
                 with begun(
                     [self.program, *words],

@@ -11,7 +11,7 @@ from .cases import Case, POWER, Unit
 from .json_texts import is_number, read_json, refused_as
 from .numbers import is_whole, Kilowatts
 from .errors import HullError, Name, one_line, write_whole
-from .options import FieldsAlone, is_flag, is_list, is_plain_whole, is_whole_number, member, refuse_backward, told_value
+from .options import FieldsAlone, is_flag, is_row, is_plain_whole, is_whole_number, member, refuse_backward, told_value
 
 if TYPE_CHECKING:
     from pandas import DataFrame
@@ -42,7 +42,7 @@ PLAN = {"on": "", "power": "kilowatts", "reserve": "kilowatts"}  # its lists, an
 def written(kind: str, name: str, key: str, numbers: Any) -> list[int]:
     """A list of a plan as its file has it. What a script has set may be an array, a series or whole floating numbers."""
     where, of = f'the schedule given: {kind} "{one_line(name)}": {key}', PLAN[key]
-    if not is_list(numbers):
+    if not is_row(numbers):
         raise HullError(f"{where} is {told_value(numbers)}: a list of a number for each period is due", unit=name)
     refuse_backward(where, numbers)
     found = [int(number) if key == "on" and is_flag(number) else number for number in numbers]

@@ -627,6 +627,21 @@ class Readers(Refusals):
             setattr(schedule.plan("W1"), key, [number])
             self.check_rows(((schedule.text, f'the schedule given: renewable "W1": {due}'),))
 
+    def test_numbers_by_key_are_no_list(self):
+        """Its keys would be taken for the numbers, as those of a dict by period, and of a set the order isn't sure."""
+        for numbers in ({1: 2000}, {2000}):
+            case, schedule = hulltools.read_case(USUAL[0]), hulltools.read_schedule(*reversed(USUAL))
+            case.reserves = schedule.plan("G1").power = numbers
+            self.check_rows(
+                (
+                    (lambda: hulltools.inputs.as_case(case), f"the case given: reserves is {numbers}: a list is due"),
+                    (
+                        schedule.text,
+                        f'the schedule given: thermal "G1": power is {numbers}: a list of a number for each period is due',
+                    ),
+                )
+            )
+
     def test_what_is_no_name(self):
         place = "`hull` is the place of the program, and no `int` can be that"
         files = "files is a dict of files' names, by `case`, `schedule`, `prices`, `mixture` and `report`"

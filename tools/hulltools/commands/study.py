@@ -207,7 +207,7 @@ def with_dearer_told(found: Schedules) -> Schedules:
     if found.best is None or more <= 0:
         return found
     told = f"it costs {money(more)} more than the schedule, which is the best one known"
-    return replace(found, best=replace(found.best, made=f"{found.best.made}; {told}"))
+    return replace(found, best=replace(found.best, made=f"{found.best.made}; {told}"), best_cost=found.cost)
 
 
 def study_of(
