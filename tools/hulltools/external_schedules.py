@@ -576,7 +576,7 @@ def refuse_negative_reserves(followed: Followed, case: Case, name: str) -> None:
 def refuse_no_flag(followed: Followed, unit: str, name: str) -> None:
     """Refuses an on flag that is far from 0 and 1, since it is no commitment, as of a relaxation or of a count of units."""
     for t, on in enumerate(followed.on.get(unit, ()), 1):
-        if min(abs(on), abs(on - 1)) > FLAG_OFF:
+        if min(abs(on), abs(on - 1)) > FLAG_OFF + 1e-9:  # (1.01 is as far from 1 as 0.01 is from 0)
             why = f'{name}: the on flag of unit "{one_line(unit)}" in period {t} is {on:.10g}, and 0 or 1 is due'
             raise HullError(why, unit=unit, period=t)
 

@@ -211,6 +211,21 @@ class Csv(WithRoom):
             told, "left out: thermal_generators: the field `owner` (1: GT5)\nleft out: the case: the field `note`\n"
         )
 
+    def test_groups_that_are_not_there_are_no_empty_ones(self) -> None:
+        """What hull would refuse isn't mended without a word."""
+        with open(f"{EXAMPLES}/evening/case.json", encoding="utf-8") as file:
+            case = json.load(file)
+        renewable = case.pop("renewable_generators")
+        for change in ({}, {"renewables_generators": renewable}, {"renewable_generators": None}):
+            other_forms.write_json(f"{self.room}/case.json", {**case, **change})
+            told = self.convert(f"{self.room}/case.json", f"{self.room}/back.json", status=1)[1]
+            self.assertIn("hull would refuse this case", told)
+            self.assertIn("renewable_generators", told)
+        other_forms.write_json(
+            f"{self.room}/case.json", {**case, "renewable_generators": renewable, "demand_bids": None}
+        )
+        self.assertIn("demand_bids", self.convert(f"{self.room}/case.json", f"{self.room}/back.json", status=1)[1])
+
     def test_files_of_other_names_are_refused_or_told(self) -> None:
         folder = self.folder()
         for name, due in (("Bids.csv", "bids.csv"), ("start.csv", "starts.csv"), ("windows.CSV", "windows.csv")):

@@ -67,19 +67,19 @@ def read_hull(data: bytes, name: str, notes: Notes) -> Object:
     if not isinstance(value, dict):
         raise HullError(f"{shown_name(name)}: no case: it isn't an object")
     top = Taken(value, "the case", None, notes)
-    case: Object = {key: top.take(key, {} if key.endswith("generators") else None) for key in CASE_KEYS}
-    case = {key: it for key, it in case.items() if it is not None}
-    case["thermal_generators"] = members(top, "thermal_generators", THERMAL, notes)
-    case["renewable_generators"] = members(top, "renewable_generators", RENEWABLE, notes)
-    bids = members(top, "demand_bids", ["blocks"], notes)
-    if "demand_bids" in value:
-        case["demand_bids"] = bids
+    case: Object = {}
+    for key in (it for it in CASE_KEYS if it in value):
+        is_group = key in GROUPS and isinstance(value[key], dict)
+        # (what has another form, or isn't there, stays so, for its fault to be told)
+        case[key] = members(top, key, GROUPS[key], notes) if is_group else value[key]
+        top.seen.add(key)
     top.rest()
     return case
 
 
-CASE_KEYS = ("time_periods", "demand", "reserves", "thermal_generators", "renewable_generators")
 RENEWABLE = ["power_output_minimum", "power_output_maximum"]
+GROUPS = {"thermal_generators": THERMAL, "renewable_generators": RENEWABLE, "demand_bids": ["blocks"]}
+CASE_KEYS = ("time_periods", "demand", "reserves", *GROUPS)
 ITEMS = {"startup": ("lag", "cost"), "piecewise_production": ("mw", "cost"), "blocks": ("mw", "price")}
 
 
