@@ -337,7 +337,9 @@ class StudyFolder:
         old, new = self.held_sums(), {(name, sha256_in(self.room, name)) for name in names}
         texts = {MARK: begun_text(self.tool), BOTH: text_of_sums(old | new, self.tool), END: f"{unfinished}\n"}
         ended = hashlib.sha256(texts[END].encode()).hexdigest()
-        texts[SUMS] = text_of_sums(new | ({(MARK, ended)} if unfinished else set()), self.tool)
+        # (a file of the run before that is read stays, as a schedule that a study made and that is given to the next one)
+        kept = {(name, was) for name, was in old if name not in names and self.is_read(os.path.join(self.folder, name))}
+        texts[SUMS] = text_of_sums(new | kept | ({(MARK, ended)} if unfinished else set()), self.tool)
         for name, text in texts.items():
             write_whole(os.path.join(self.room, name), text)
         self.move(MARK)
@@ -408,10 +410,13 @@ def write_in_folder(
     inputs: Sequence[str],
     tool: str,
     kind: Type[StudyFolder] = TablesFolder,
+    keeps: bool = False,
 ) -> None:
-    """Puts a tool's files, by name, into a folder together, in place of those of its run before."""
+    """Puts a tool's files, by name, into a folder together, in place of those of its run before. Where they can't come there, those that took long are kept in a room of it."""
     with kind(folder, inputs, tool) as place:
-        place.refuse(list(files))
+        place.is_begun = keeps
+        if not keeps:
+            place.refuse(list(files))
         write_together({os.path.join(place.room, name): content for name, content in files.items()})
         with heard_later():
             place.place()

@@ -18,10 +18,11 @@ from unittest import mock
 from test_holding import Room, read, write
 from tool import EXAMPLES, PROGRAM, python_with, run
 
-from hulltools import done_marks, errors, studies, study_folder
+from hulltools import done_marks, errors, program, studies, study_folder
+from hulltools.commands import settle_zones
 from hulltools.commands import study as study_command
-from hulltools.errors import HullError
-from hulltools.study_folder import HEAD, LOCK, MARK, ROOM, SUMS, StudyFolder
+from hulltools.errors import HullError, NotOurs
+from hulltools.study_folder import HEAD, LOCK, MARK, ROOM, SUMS, StudyFolder, write_in_folder
 from hulltools.price_lists import LISTS
 from hulltools.sweeping import WIDTH, Bar, joined, picture_of_sweep, scenarios_of, uplifts
 from hulltools.tables import told_apart
@@ -184,6 +185,16 @@ class Studies(InFolder):
                 raise MemoryError
         self.assertEqual(read(f"{folder.room}/table"), "1")
 
+    def test_a_file_that_the_next_study_reads_stays_its_own(self) -> None:
+        """As a schedule that a study made, which is given to the next one to spare the search."""
+        self.study(schedule="1", table="1")
+        with StudyFolder(self.folder, [f"{self.folder}/schedule"]) as folder:
+            write(f"{folder.room}/table", "2")
+            folder.place()
+        self.assertIn(("schedule", sum_of("1")), study_folder.sums_of(self.folder) or set())
+        self.study(schedule="3", table="3")
+        self.assertEqual((read(f"{self.folder}/schedule"), read(f"{self.folder}/table")), ("3", "3"))
+
     def test_a_lock_is_no_link(self) -> None:
         self.made(precious="1")
         os.symlink("precious", f"{self.folder}/{LOCK}")
@@ -248,11 +259,30 @@ class Tables(InFolder):
             self.assertEqual((status, said.count("\n"), self.all()), (2, 1, before))
             self.assertIn("units.csv: no ", said)
 
+    def test_settlements_are_refused_before_they_are_worked_out(self) -> None:
+        zones = {"zones": {"C": {"energy": [98]}}, "default": "C"}
+        self.assertEqual(self.settle(**zones), (0, ""))
+        with open(f"{self.folder}/1.C.settlement.txt", "a", encoding="utf-8") as file:
+            file.write("mine\n")
+        with mock.patch.object(program.Hull, "settle", side_effect=AssertionError("it was asked to settle")):
+            with self.assertRaisesRegex(NotOurs, "1.C.settlement.txt: it was changed since"):
+                words = [CASE, SCHEDULE, f"{self.room}/zones.json", "--to", self.folder, "--hull", PROGRAM]
+                settle_zones.body(words, lambda told: None)
+
+    def test_settlements_that_cannot_be_placed_are_kept(self) -> None:
+        self.made(**{"1.C.settlement.txt": "mine"})
+        with self.assertRaisesRegex(NotOurs, "so it stays.*; what was made is in ") as found:
+            write_in_folder(self.folder, {"1.C.settlement.txt": "1"}, [], "settle_zones.py", StudyFolder, keeps=True)
+        place = str(found.exception).rsplit(" is in ", 1)[1]
+        self.assertEqual(read(f"{place}/1.C.settlement.txt"), "1")
+
     def test_files_behind_links_stay(self) -> None:
         self.made(units="precious")
         os.symlink("units", f"{self.folder}/units.csv")
-        self.assertEqual(self.settle(zones={"C": {"energy": [98]}}, default="C"), (0, ""))
-        self.assertEqual(read(f"{self.folder}/units"), "precious")
+        status, said = self.settle(zones={"C": {"energy": [98]}}, default="C")
+        self.assertEqual((status, "units.csv: no settle_zones.py here made this" in said), (2, True), said)
+        self.assertTrue(os.path.islink(f"{self.folder}/units.csv"))
+        os.unlink(f"{self.folder}/units.csv")
         os.symlink("units", f"{self.folder}/link")
         errors.write_together({f"{self.folder}/link": "1", f"{self.folder}/other": "1"})
         self.assertEqual((read(f"{self.folder}/units"), read(f"{self.folder}/link")), ("precious", "1"))

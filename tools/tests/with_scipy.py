@@ -1023,6 +1023,17 @@ class Sweep(unittest.TestCase):
             self.assertEqual(os.path.exists(lacks), status == 3)
         self.assertEqual(self.gaps(), {"base": 250, "demand +2%": 225})
 
+    def test_a_table_that_somebody_has_changed_gets_another_name(self):
+        words = ["--", "--skip", "elmp,relaxation,convex_hull"]
+        self.assertEqual(self.sweep(*words)[0], 0)
+        with open(f"{self.room}/sweep.csv", "a", encoding="utf-8") as file:
+            file.write("mine\n")
+        status, said = self.sweep(*words)
+        self.assertEqual((status, f"{self.room}/sweep.csv.changed is what somebody has made" in said), (0, True), said)
+        with open(f"{self.room}/sweep.csv.changed", encoding="utf-8") as file:
+            self.assertTrue(file.read().endswith("mine\n"))
+        self.assertEqual(self.sweep(*words)[0], 0)
+
     def test_a_search_that_missed_its_distance_is_told_by_each_run(self):
         rest = ["--skip", "elmp,relaxation", "--within", "0", "--rounds", "1"]
         told = "The search for convex hull prices missed its distance of 0.00"

@@ -21,15 +21,15 @@ from __future__ import annotations
 from collections.abc import Sequence
 from typing import Optional, Union
 
-from ..cases import read_case
+from ..cases import Case, read_case
 from ..errors import Tell, need_output, run_tool
 from ..outputs import Settlement
 from ..prices import Prices
 from ..program import Hull
 from ..schedules import read_schedule
-from ..study_folder import TablesFolder, write_in_folder
+from ..study_folder import StudyFolder, write_in_folder
 from ..study_tables import zonal_table
-from ..zones import read_zones, settle_zones
+from ..zones import Zones, read_zones, settle_zones
 from .words import add_seconds, asker
 
 TOOL, TABLE = "settle_zones.py", "units.csv"
@@ -37,6 +37,13 @@ TOOL, TABLE = "settle_zones.py", "units.csv"
 
 def file_of(zone: str) -> str:
     return "".join(it if it.isascii() and it.isalnum() or it in "-_" else "_" for it in zone[:100])
+
+
+def settlement_files(zones: Zones, case: Case) -> list[str]:
+    """The names of the settlements, one for each zone that a unit is of, in the order of the zones."""
+    used = {zones.zone_of(kind, unit.name) for kind, unit in case.units}
+    there = (zone for zone in zones.prices if zone in used)
+    return [f"{place}.{file_of(zone)}.settlement.txt" for place, zone in enumerate(there, 1)]
 
 
 def body(words: Sequence[str], tell: Tell) -> None:
@@ -50,9 +57,13 @@ def body(words: Sequence[str], tell: Tell) -> None:
         need_output()
     hull, inputs = Hull(given.hull, tell, given.seconds), [given.case, given.schedule, given.zones]
     if given.to is not None:
-        TablesFolder(given.to, inputs, TOOL).refuse([TABLE])
+        StudyFolder(given.to, inputs, TOOL).refuse([TABLE])
     hull.check(given.case, given.schedule)
     case = read_case(given.case)
+    zones = read_zones(given.zones, case)
+    names = settlement_files(zones, case)
+    if given.to is not None:
+        StudyFolder(given.to, inputs, TOOL).refuse(names)
     texts: list[bytes] = []
 
     def settle(prices: Prices) -> Settlement:
@@ -60,15 +71,13 @@ def body(words: Sequence[str], tell: Tell) -> None:
         texts.append(hull.last_text)
         return settlement
 
-    zonal = settle_zones(settle, case, read_schedule(given.schedule, case), read_zones(given.zones, case))
+    zonal = settle_zones(settle, case, read_schedule(given.schedule, case), zones)
     table = zonal_table(zonal, given.currency)
     if given.to is None:
         table.write()
         return
-    files: dict[str, Union[str, bytes]] = {TABLE: table.text()}
-    for place, (zone, text) in enumerate(zip(zonal.settlements, texts), 1):
-        files[f"{place}.{file_of(zone)}.settlement.txt"] = text
-    write_in_folder(given.to, files, inputs, TOOL)
+    files: dict[str, Union[str, bytes]] = {TABLE: table.text(), **dict(zip(names, texts))}
+    write_in_folder(given.to, files, inputs, TOOL, StudyFolder, keeps=True)
 
 
 def main(words: Optional[Sequence[str]] = None) -> int:

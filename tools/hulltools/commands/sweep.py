@@ -186,15 +186,23 @@ def table_of(folder: StudyFolder, case: str, words: Sequence[str], work: Mark, h
     with folder as place, ExitStack() as until_written:
         study = make_scenario(place, case, words, hull, lambda text: tell(f"{place.named}: {text}"), until_written)
         table = write_scenario(place, study, work)
-        for name in place.aside:
-            tell(f"{name} is what somebody has made of the scenario's file")
+        tell_aside(place, tell)
     return table
 
 
-def begin_sweep(folder: str, inputs: Sequence[str]) -> None:
-    """Takes away the table and the picture of the sweep before, which aren't of this one, however this one ends."""
+def tell_aside(place: StudyFolder, tell: Tell) -> None:
+    """Tells the new names of files that somebody has changed."""
+    for name in place.aside:
+        tell(f"{name} is what somebody has made of this sweep's file")
+
+
+def begin_sweep(folder: str, inputs: Sequence[str], tell: Tell) -> None:
+    """Takes away the table and the picture of the sweep before, which aren't of this one, however this one ends. One that was changed gets another name."""
     if any(os.path.lexists(os.path.join(folder, name)) for name in GATHERED):
-        with heard_later(), StudyFolder(folder, inputs, SWEEP) as place:
+        with heard_later(), StudyFolder(folder, inputs, SWEEP, keeps_changed=True) as place:
+            with place.locked():
+                place.set_aside(GATHERED)
+            tell_aside(place, tell)
             place.place(NOT_THERE)
 
 
@@ -233,7 +241,7 @@ class Sweep:
         if given.zones:
             raise HullError("--zones: the tables of a sweep have no payments by zone; study.py has them for one case")
         names = [*files_of(wanted(given, self.case), True, True), CASE, DONE, LACKS]
-        StudyFolder(self.given.folder, self.inputs, SWEEP).refuse(GATHERED)
+        StudyFolder(self.given.folder, self.inputs, SWEEP, keeps_changed=True).refuse(GATHERED)
         for scenario in self.scenarios:
             scenario.change(self.case)
             folder_of(self.given.folder, scenario, self.inputs).refuse(names)
@@ -257,7 +265,7 @@ class Sweep:
             self.tell(f"{scenario.name} is left out: {why.line}")
 
     def begin(self) -> None:
-        begin_sweep(self.given.folder, self.inputs)
+        begin_sweep(self.given.folder, self.inputs, self.tell)
 
     def look_again(self) -> None:
         """Takes the tables that lie there now. Where another sweep made a scenario anew, or a file that the words name changed, there is no table of all."""
