@@ -268,7 +268,9 @@ def refusal_of_reserve(name: Name) -> Optional[HullError]:
 
 
 def is_near(key: str, known: str) -> bool:
-    return bool(difflib.get_close_matches(key.casefold(), [known], 1, NEAR))
+    """Whether the known key is most likely meant, as by `reserves` or by `spinning_reserve`."""
+    plain = key.casefold()
+    return known in plain or bool(difflib.get_close_matches(plain, [known], 1, NEAR))
 
 
 def read_prices(name: Name, periods: Optional[int] = None) -> Prices:

@@ -263,6 +263,8 @@ class Keys(Refusals):
                 ('"reserves": [5]', "reserves"),
                 ('"Reserve": [5]', "Reserve"),
                 ('"source": 1, "resrve": [5]', "resrve"),
+                ('"spinning_reserve": [5]', "spinning_reserve"),
+                ('"reserve_eur_per_mw": [5]', "reserve_eur_per_mw"),
                 ('"source": 1', None),
                 ('"reserve": [5], "reserves": 1', None),
             ):
