@@ -7,7 +7,7 @@ import operator
 import re
 from collections.abc import Iterable, Mapping, Sequence, Set
 from dataclasses import fields
-from datetime import datetime, timedelta
+from datetime import date, datetime, time, timedelta
 from typing import TYPE_CHECKING, Any, Optional, TypeVar, cast
 
 from .errors import HullError, one_line
@@ -16,6 +16,7 @@ Found = TypeVar("Found")
 MOST_TOLD = 60  # characters of a value
 MOST_SECONDS = 2_000_000  # (the system waits no longer than some weeks)
 UTC = re.compile(r"[zZ]\Z")  # (as a time ends; Python reads it from 3.11 on)
+DATE = re.compile("[0-9]{4}-[0-9]{2}-[0-9]{2}([T ].+)?")
 
 
 def told_value(value: object) -> str:
@@ -95,34 +96,54 @@ def is_row(value: object) -> bool:
     return is_list(value) and not isinstance(value, (Mapping, Set)) and not hasattr(value, "columns")
 
 
+def time_of_text(text: str) -> datetime:
+    """The time that a text says, which is a date with a time or without; ValueError where it says none. Python would take `2026-07-01+02:00` for two o'clock."""
+    found = UTC.sub("+00:00", text.strip())
+    if not DATE.fullmatch(found):
+        raise ValueError(text)
+    return datetime.fromisoformat(found)
+
+
 def time_of_label(label: Any) -> Any:
-    """The time that a label of a series is, since a date or since another time, also as a text that begins with the year; None of another label."""
+    """The time that a label of a series is, as a date, a time of day or a length of time; None of another label."""
+    if isinstance(label, tuple):  # (of an index of several columns)
+        return next((it for it in map(time_of_label, label) if it is not None), None)
     if isinstance(label, str):
         try:
-            return datetime.fromisoformat(UTC.sub("+00:00", label.strip())) if label[4:5] == "-" else None
+            found = time.fromisoformat(label.strip()) if label.strip()[2:3] == ":" else time_of_text(label)
         except ValueError:
             return None
+        return found
     found = getattr(label, "start_time", label)  # (of a period of pandas)
-    return found if isinstance(found, (datetime, timedelta)) else None
+    if isinstance(found, date) and not isinstance(found, datetime):
+        return datetime(found.year, found.month, found.day)
+    return found if isinstance(found, (datetime, time, timedelta)) and found == found else None
 
 
-def can_be_ordered(times: list[Any]) -> bool:
-    """Whether each is later or earlier than another: all are of one kind, and all or none have a zone."""
-    return len({(isinstance(it, datetime), getattr(it, "tzinfo", None) is None) for it in times}) == 1
+def kind_of_time(given: Any) -> tuple[str, bool]:
+    """What it is, and whether it has a zone: times of one kind are each later or earlier than another."""
+    kinds = (("datetime", datetime), ("time", time), ("length", timedelta))
+    return next(name for name, kind in kinds if isinstance(given, kind)), getattr(given, "tzinfo", None) is not None
 
 
 def refuse_backward(name: str, given: Any) -> None:
     """Refuses a series of pandas whose times go back, as where the last one stands first: its numbers are taken by their places."""
     index = getattr(given, "index", ())
-    times = [] if callable(index) else [time_of_label(it) for it in index]
-    known = [it for it in times if it is not None]
-    if len(known) < len(times) or not can_be_ordered(known):
+    times = [] if callable(index) else [it for it in map(time_of_label, index) if it is not None]
+    kinds = set(map(kind_of_time, times))
+    if len(kinds) != 1:
         return
-    back = [(one, other) for one, other in zip(known, known[1:]) if other < one]
-    # (where summer ends, times without an offset go back once, by less than an hour)
-    has_clock = isinstance(known[0], datetime) and known[0].tzinfo is None
-    is_clock = has_clock and len(back) == 1 and back[0][0] - back[0][1] < timedelta(hours=1)
-    if back and not is_clock:
+    back = [(one, other) for one, other in zip(times, times[1:]) if other < one]
+    kind, has_zone = kinds.pop()
+    # (times of a day pass midnight, and where summer ends those without an offset go back once, by less than an hour)
+    is_clock = (
+        kind == "time"
+        or kind == "datetime"
+        and not has_zone
+        and back[:1]
+        and back[0][0] - back[0][1] < timedelta(hours=1)
+    )
+    if back and not (is_clock and len(back) == 1):
         one, other = (told_value(it) for it in back[0])
         raise HullError(f"{name}: its times go back from {one} to {other}, and the order of time is due")
 

@@ -18,7 +18,7 @@ from .costs import Costs
 from .day_lengths import changed_day, example_with_offset, in_parts, length_on_change
 from .numbers import decimal_text
 from .errors import HullError, one_line
-from .options import UTC, float_of, is_whole_number, number_option, told_value
+from .options import float_of, is_whole_number, number_option, time_of_text, told_value
 from .outputs import Convex, Fixed, Owed, Priced, Report, Settlement, Text
 from .schedules import Schedule
 from .telling import is_shown, write_text
@@ -255,7 +255,7 @@ def start_of(pandas: Any, start: Start) -> Any:
 
 def time_of(start: Any) -> Any:
     """The time that a text says: pandas would take others too, as the time of today, and read UTC+2 as two hours behind."""
-    return datetime.fromisoformat(UTC.sub("+00:00", start.strip())) if isinstance(start, str) else start
+    return time_of_text(start) if isinstance(start, str) else start
 
 
 def is_number_text(start: object) -> bool:

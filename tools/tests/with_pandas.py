@@ -9,7 +9,7 @@ import unittest
 import warnings
 import zoneinfo
 from dataclasses import replace
-from datetime import datetime
+from datetime import date, datetime
 from unittest import mock
 
 import numpy
@@ -129,6 +129,9 @@ class Columns(unittest.TestCase):
         for start in ("2026-07-01T00:00+02:00", "2026-06-30 22:00Z", " 2026-06-30T22:00:00+00:00 "):
             time = settled(98).frames(start=start)["prices"].index[0]
             self.assertEqual(time.tz_convert("UTC").isoformat(), "2026-06-30T22:00:00+00:00")
+        for start in ("2026-07-01+02:00", "2026-07-01-05:00"):  # (which Python would take for two and for five o'clock)
+            with self.assertRaisesRegex(hulltools.HullError, "a time is due, as 2026-07-01T00:00$"):
+                settled(98).frames(start=start)
         with self.assertRaisesRegex(hulltools.HullError, "the periods end behind the last time that pandas has$"):
             hulltools.per_mwh([30] * 9).frame("2262-04-11T23:00")
 
@@ -218,7 +221,11 @@ class Set(unittest.TestCase):
                     hulltools.HullError, f"{name}: its times go back from 2026-.* the order of time is due$"
                 ):
                     call()
-        for times in (pandas.to_timedelta([2, 1, 0], "h"), ["2026-07-01T01:00Z", "2026-07-01T00:00Z"]):
+        zoned = [("N", it) for it in hours[::-1]]
+        gap = [*hours[3:0:-1], pandas.NaT]
+        days, clock = [date(2026, 7, 2), date(2026, 7, 1)], ["02:00", "01:00", "00:00"]
+        joined, texts = pandas.MultiIndex.from_tuples(zoned), ["2026-07-01T01:00Z", "2026-07-01T00:00Z"]
+        for times in (pandas.to_timedelta([2, 1, 0], "h"), texts, joined, gap, days, clock):
             with self.assertRaisesRegex(hulltools.HullError, "the energy prices: its times go back from "):
                 hulltools.per_mwh(pandas.Series(range(len(times)), index=times))
 
@@ -226,7 +233,8 @@ class Set(unittest.TestCase):
         """Whole numbers come of sorted and of joined frames; a clock without an offset goes back once, in autumn."""
         quarters = pandas.date_range("2026-10-25T00:15", periods=6, freq="15min", tz="UTC").tz_convert("Europe/Berlin")
         quarters = quarters.tz_localize(None)
-        for index in ([2, 1, 0, 5, 4, 3], [0, 1, 2] * 2, list("fedcba"), quarters, quarters.astype(str)):
+        night = ["21:00", "22:00", "23:00", "00:00", "01:00", "02:00"]
+        for index in ([2, 1, 0, 5, 4, 3], [0, 1, 2] * 2, list("fedcba"), quarters, quarters.astype(str), night):
             found = hulltools.per_mwh(pandas.Series(range(6), index=index))
             self.assertEqual(found.energy, [it * 1000 for it in range(6)])
 

@@ -13,7 +13,7 @@ from typing import Any, NoReturn, Optional, Type, TypeVar, Union
 from ..fast_start import FastStart
 from ..numbers import millionths
 from ..errors import HullError, Tell, told_with
-from ..options import MOST_SECONDS, float_of, is_plain
+from ..options import MOST_SECONDS, float_of, is_plain, time_of_text
 from ..outputs import ROUNDS, WITHIN
 from ..prices import Prices
 from ..search_limits import MOST_NODES, SECONDS, SearchLimits
@@ -72,7 +72,8 @@ def description_of(tool: str) -> str:
 
 def asker(tool: str, doc: Optional[str], kind: Type[Asker] = Asker) -> Asker:
     """A reader of words whose usage is that of the tool's description."""
-    return kind(prog=tool, usage=(doc or description_of(tool)).split("usage: ")[1].rstrip().replace("%", "%%"))
+    usage = (doc or description_of(tool)).split("usage: ")[1].rstrip().replace("%", "%%")
+    return kind(prog=tool, usage=usage, allow_abbrev=kind is Asker)  # (an option of a call is one by its whole name)
 
 
 def within(number: Range, least: Range, most: Range) -> Range:
@@ -144,7 +145,7 @@ def rounds(text: str) -> int:
 
 def time(text: str) -> datetime:
     """When the first period begins."""
-    found = datetime.fromisoformat(text)
+    found = time_of_text(text)
     within(found.year, 1, LAST_YEAR)
     return found
 
