@@ -302,6 +302,7 @@ def nearest(model: Commitment, wanted: Powers) -> Optional[Solved]:
             return None
         program.cost = cost
         program.at_most([(it, 1) for it in distances], solved.value + SLACK / 1e3)
+        return program.solve_linear() or solved
     return program.solve_linear()
 
 
@@ -315,7 +316,10 @@ def near_to(case: Case, followed: Followed, name: str) -> Made:
     model, wanted = Commitment(case), wanted_powers(case, followed)
     model.fix(flags)
     # (flags that are held are held against the rules that the state before period 1 and windows give, too)
-    solved = None if barred_flags(case, flags) else nearest(model, wanted)
+    is_barred = barred_flags(case, flags) is not None
+    solved = None if is_barred else nearest(model, wanted)
+    if solved is None and not (is_barred or model.program.is_infeasible):
+        raise HullError(f"{name}: the solver ended without powers, and doesn't say that there are none")
     if solved is None:
         why = why_flags(case, flags)
         told = f"{name}: its commitments can't be met in this case: {why.sentence}"

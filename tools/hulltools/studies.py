@@ -262,10 +262,10 @@ class Maker:
         self.add(price_list, self.hull.price(self.case_file, self.schedule_file, *words).prices)
 
     def searches(self) -> Iterator[Step]:
-        work = len(self.study.case.units) * self.study.case.periods
-        most = str(max(1, min(1000, MOST_WORK // work)))
-        yield SUBGRADIENT_100, lambda: self.add_searched(SUBGRADIENT_100)
-        yield SUBGRADIENT_1000, lambda: self.add_searched(SUBGRADIENT_1000, "--proposals", most, "--ahead", "1")
+        most = max(1, MOST_WORK // (len(self.study.case.units) * self.study.case.periods))
+        few, many = (["--proposals", str(min(budget, most))] for budget in (100, 1000))
+        yield SUBGRADIENT_100, lambda: self.add_searched(SUBGRADIENT_100, *few)
+        yield SUBGRADIENT_1000, lambda: self.add_searched(SUBGRADIENT_1000, *many, "--ahead", "1")
 
     def add_zonal(self, zones: Zones) -> None:
         self.study.zonal = settle_zones(self.settle, self.study.case, self.study.schedule, zones)
@@ -354,8 +354,9 @@ class Maker:
             self.say_short(f"{price_list.name} is left out: {why}. Give --seconds more, or --skip {price_list.key}.")
         except (NoOutput, NotOurs):
             raise
-        except (HullError, MemoryError) as error:
-            found = error if isinstance(error, HullError) else HullError("no memory")
+        except (HullError, MemoryError, RuntimeError) as error:  # (the last line of what a solver's process fell over)
+            told = "no memory" if isinstance(error, MemoryError) else str(error).strip().rpartition("\n")[2]
+            found = error if isinstance(error, HullError) else HullError(one_line(told))
             self.study.failure = self.study.failure or found
             self.say_short(f"{price_list.name} is left out: {found.line}.")
 

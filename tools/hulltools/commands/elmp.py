@@ -9,7 +9,7 @@ usage: elmp.py CASE SCHEDULE PRICES [--fast-start NAMES | --fast-start-up N --fa
                       dearest start costs at most MONEY (whatever it costs, if left out)
   --online-only       a fast-start unit stays off where the schedule has it off
   --seconds S         the solver is ended after so many seconds, 1800 if left out and at most 2000000, and so is the
-                      program; nothing is written then
+                      program, where it is given; nothing is written then
   --hull PROGRAM      the program that checks the schedule; the launcher of this repository if left out
 
 A fast-start unit may be on by any part between 0 and 1 in each period. It then pays that part of its cost at least power and of its start,

@@ -4,7 +4,7 @@ usage: lmp.py CASE SCHEDULE PRICES [--seconds S] [--hull PROGRAM]
 
   PRICES          where the prices are written
   --seconds S     the solver is ended after so many seconds, 1800 if left out and at most 2000000, and so is the
-                  program; nothing is written then
+                  program, where it is given; nothing is written then
   --hull PROGRAM  the program that checks the schedule; the launcher of this repository if left out
 
 These are the prices that an ordinary market sets once the commitment is given. Where several prices are right, as at a kink of a cost

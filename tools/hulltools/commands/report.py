@@ -98,7 +98,8 @@ def case_and_schedule(
 
 def refuse_one_name(names: Sequence[str]) -> None:
     """Refuses texts of one name: by it the tables tell their rows apart."""
-    twice = next((name for place, name in enumerate(names) if name in names[:place]), None)
+    places = [os.path.realpath(name) for name in names]
+    twice = next((name for i, name in enumerate(names) if places[i] in places[:i]), None)
     if twice is not None:
         raise HullError(f"{one_line(twice)} is named twice, and its rows in the tables would be one text's")
 
