@@ -9,7 +9,8 @@ usage: compare.py SETTLEMENT STATEMENT [--rule make-whole|full] [--unit COLUMN] 
   --unit, --amount  other names of the columns
   --tolerance MONEY a difference up to that is none; 0.01 if left out
 
-The table is printed, the largest difference first: statement less settlement. A unit that one of the two hasn't counts as 0 there and is told.
+The table is printed, the largest difference first: statement less settlement. A unit that one of the two hasn't counts as 0 there, and its cell is
+empty; a line names those whose amount isn't 0. Commas of amounts part thousands.
 Status 0 where no difference is above the tolerance, else 3.
 """
 from collections.abc import Sequence
