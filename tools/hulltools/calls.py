@@ -34,6 +34,7 @@ from .inputs import (
     is_name,
     told,
 )
+from .held_files import HeldFiles
 from .linear import need_scipy
 from .numbers import millionths
 from .progress import told_to
@@ -79,13 +80,13 @@ def make_schedule(
         number_option("gap", gap, 0), whole_option("nodes", nodes, 1, MOST_NODES), seconds_option(seconds)
     )
     need_scipy()
-    program = Hull(hull, tell, limits.seconds)
-    program.need("check")  # (before the search, which would be lost)
+    Hull(hull, tell).need("check")  # (before the search, which would be lost)
     before = sums_of_files([os.fspath(case)]) if is_name(case) else {}
-    with told_to(tell):
+    with told_to(tell), HeldFiles() as held:
+        case = held.of(case)
         with told_of_a_call():
             found = search_schedule(as_checked_case(case), limits)
-        found.checked_cost = program.check(case, found.schedule)
+        found.checked_cost = Hull(hull, tell, limits.seconds).check(case, found.schedule)
     refuse_changed(before, "search and check are", "there is no schedule")
     return found
 
@@ -108,21 +109,22 @@ def follow_schedule(
     """
     seconds = seconds_option(seconds)
     need_scipy()
-    program = Hull(hull, tell, seconds)
-    program.need("check")
-    read, said = as_checked_case(case), in_words_of_a_call(tell)
-    followed, name = as_followed(powers, read)
-    for names, is_so in (
-        (free_units(followed, read), "are free"),
-        (followed.guessed, "have no on flags, and are off where the power is 0"),
-        (strangers(followed, read), "aren't in the case"),
-        (followed.skipped, "are skipped"),
-    ):
-        if names:
-            said(f"{name}: {some(names)} {is_so}")
-    with told_to(tell):
+    Hull(hull, tell).need("check")
+    said = in_words_of_a_call(tell)
+    with told_to(tell), HeldFiles() as held:
+        case = held.of(case)
+        read = as_checked_case(case)
+        followed, name = as_followed(powers, read)
+        for names, is_so in (
+            (free_units(followed, read), "are free"),
+            (followed.guessed, "have no on flags, and are off where the power is 0"),
+            (strangers(followed, read), "aren't in the case"),
+            (followed.skipped, "are skipped"),
+        ):
+            if names:
+                said(f"{name}: {some(names)} {is_so}")
         found = follow(read, followed, name, seconds)
-        found.checked_cost = program.check(case, found.schedule)
+        found.checked_cost = Hull(hull, tell, seconds).check(case, found.schedule)
     said(in_words(found.deviations, name, has_powers(followed, read)))
     return found
 
@@ -136,9 +138,11 @@ def lmp(
     """
     seconds = seconds_option(seconds)
     need_scipy()
-    Hull(hull, seconds=seconds).check(case, schedule)
-    read = as_case(case)
-    return held_prices(read, as_schedule(schedule, read), seconds)
+    with HeldFiles() as held:
+        case, schedule = held.of(case), held.of(schedule)
+        Hull(hull, seconds=seconds).check(case, schedule)
+        read = as_case(case)
+        return held_prices(read, as_schedule(schedule, read), seconds)
 
 
 def integer_relaxation(case: GivenCase, seconds: Optional[float] = SECONDS) -> Prices:
@@ -173,10 +177,12 @@ def elmp(
     if isinstance(fast_start, str):
         raise HullError(f"fast_start is {told_value(fast_start)}: a list of names is due, as [{fast_start!r}]")
     need_scipy()
-    Hull(hull, seconds=seconds).check(case, schedule)
-    read = as_case(case)
     fast = FastStart(None if fast_start is None else tuple(fast_start), most_up, cost, online_only)
-    return fast_start_prices(read, as_schedule(schedule, read), fast, seconds)
+    with HeldFiles() as held:
+        case, schedule = held.of(case), held.of(schedule)
+        Hull(hull, seconds=seconds).check(case, schedule)
+        read = as_case(case)
+        return fast_start_prices(read, as_schedule(schedule, read), fast, seconds)
 
 
 def convex_prices(
@@ -201,13 +207,15 @@ def settle_zones(case: GivenCase, schedule: GivenSchedule, zones: GivenZones, hu
 
     Raises `HullError` where the schedule isn't feasible, and where a unit has no zone.
     """
-    program, read = Hull(hull), as_case(case)
-    program.check(case, schedule)
+    with HeldFiles() as held:
+        files, program = (held.of(case), held.of(schedule)), Hull(hull)
+        program.check(*files)
+        read = as_case(files[0])
 
-    def settle(prices: Prices) -> Settlement:
-        return program.settle(case, schedule, prices)
+        def settle(prices: Prices) -> Settlement:
+            return program.settle(*files, prices)
 
-    return settle_each(settle, read, as_schedule(schedule, read), as_zones(zones, read))
+        return settle_each(settle, read, as_schedule(files[1], read), as_zones(zones, read))
 
 
 def in_a_call(text: str) -> str:

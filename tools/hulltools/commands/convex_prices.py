@@ -25,6 +25,7 @@ from typing import Optional
 
 from ..errors import HullError, Tell, run_tool, try_output
 from ..gap_parts import gap_parts
+from ..held_files import HeldFiles
 from ..kept_work import write_found
 from ..numbers import money
 from ..outputs import Convex
@@ -63,8 +64,10 @@ def body(words: Sequence[str], tell: Tell) -> None:
         raise HullError(f"{given.mixture}: prices and mixture need a file each")
     hull, before = Hull(given.hull, tell, given.seconds), sums_of_files(inputs)
     # (what is refused behind the search would lose it)
-    best_cost = hull.check(given.case, given.best_schedule) if given.best_schedule else None
-    found = hull.convex(given.case, given.schedule, given.within, given.rounds)
+    with HeldFiles() as held:
+        files = held.words_of(given)
+        best_cost = hull.check(files.case, files.best_schedule) if given.best_schedule else None
+        found = hull.convex(files.case, files.schedule, given.within, given.rounds)
     refuse_changed(before, "the gap would be")
     parts = gap_parts(found.cost, found.value, found.bound, best_cost)
     texts = {given.prices: found.prices.text(), given.mixture: found.mixture.text()}

@@ -28,6 +28,7 @@ from typing import Optional
 from ..cases import read_case
 from ..errors import HullError, Tell, run_tool, try_output
 from ..fast_start import names_told
+from ..held_files import HeldFiles
 from ..kept_work import write_found
 from ..linear import need_scipy
 from ..program import Hull
@@ -48,12 +49,14 @@ def body(words: Sequence[str], tell: Tell) -> int:
     inputs = [given.case, given.schedule]
     try_output(given.prices, inputs)
     before = sums_of_files(inputs)
-    Hull(given.hull, tell, given.seconds).check(given.case, given.schedule)
-    case, fast = read_case(given.case), fast_start(given)
-    units = fast.units(case)
-    if not units:
-        raise HullError("no unit is fast-start by the rule given: these prices would be LMPs")
-    prices = fast_start_prices(case, read_schedule(given.schedule, case), fast, solver_seconds(given))
+    with HeldFiles() as held:
+        files, fast = held.words_of(given), fast_start(given)
+        Hull(given.hull, tell, given.seconds).check(files.case, files.schedule)
+        case = read_case(files.case)
+        units = fast.units(case)
+        if not units:
+            raise HullError("no unit is fast-start by the rule given: these prices would be LMPs")
+        prices = fast_start_prices(case, read_schedule(files.schedule, case), fast, solver_seconds(given))
     refuse_changed(before, "check and prices are")
     write_found({given.prices: prices.text()}, inputs)
     tell(f"fast-start: {names_told(units)}")

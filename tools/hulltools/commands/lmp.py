@@ -19,6 +19,7 @@ from collections.abc import Sequence
 from typing import Optional
 
 from ..cases import read_case
+from ..held_files import HeldFiles
 from ..linear import need_scipy
 from ..program import Hull
 from ..provenance import refuse_changed, sums_of_files
@@ -39,9 +40,11 @@ def body(words: Sequence[str], tell: Tell) -> int:
     inputs = [given.case, given.schedule]
     try_output(given.prices, inputs)
     before = sums_of_files(inputs)
-    Hull(given.hull, tell, given.seconds).check(given.case, given.schedule)
-    case = read_case(given.case)
-    prices = held_prices(case, read_schedule(given.schedule, case), solver_seconds(given))
+    with HeldFiles() as held:
+        files = held.words_of(given)
+        Hull(given.hull, tell, given.seconds).check(files.case, files.schedule)
+        case = read_case(files.case)
+        prices = held_prices(case, read_schedule(files.schedule, case), solver_seconds(given))
     refuse_changed(before, "check and prices are")
     write_found({given.prices: prices.text()}, inputs)
     return status_of(prices, tell)

@@ -41,6 +41,7 @@ from typing import Optional, Union
 from ..cases import Case, read_case
 from ..deviations import farthest, in_words, table_text
 from ..external_schedules import free_units, has_powers, read_followed, some, strangers
+from ..held_files import HeldFiles
 from ..kept_work import write_found
 from ..linear import need_scipy
 from ..numbers import Millionths, money
@@ -111,16 +112,18 @@ def make(given: Given, limits: SearchLimits, tell: Tell) -> tuple[Made, Milliont
     """Makes the schedule, has it checked, writes it; what was made, its cost in millionths and what is to be said of it."""
     hull = Hull(given.hull, tell, given.seconds)
     before = sums_of_files([given.case])
-    case = checked_case(hull, given.case)
-    reached: Optional[str] = None
-    if given.follow is not None:
-        found, reached = followed_schedule(given, case, tell)
-    else:
-        found = searched_schedule(case, limits, tell)
-    try:
-        cost = hull.check(given.case, found.schedule)
-    except HullError as why:
-        raise HullError(f"no schedule is written, since what was found is refused: {why.line}") from None
+    with HeldFiles() as held:
+        name = held.of(given.case)
+        case = checked_case(hull, name)
+        reached: Optional[str] = None
+        if given.follow is not None:
+            found, reached = followed_schedule(given, case, tell)
+        else:
+            found = searched_schedule(case, limits, tell)
+        try:
+            cost = hull.check(name, found.schedule)
+        except HullError as why:
+            raise HullError(f"no schedule is written, since what was found is refused: {why.line}") from None
     refuse_changed(before, "search and check are", "no schedule is written")
     write_found({given.schedule: found.schedule.text()}, inputs_of(given))
     return found, cost, reached or found.told(cost)

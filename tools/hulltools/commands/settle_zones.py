@@ -18,18 +18,20 @@ price for all. Nodal prices are settled so, with a zone for each node.
 """
 from __future__ import annotations
 
+from argparse import Namespace
 from collections.abc import Sequence
 from typing import Optional, Union
 
 from ..cases import Case, read_case
 from ..errors import Tell, need_output, run_tool
+from ..held_files import HeldFiles
 from ..outputs import Settlement
 from ..prices import Prices
 from ..program import Hull
 from ..schedules import read_schedule
 from ..study_folder import StudyFolder, write_in_folder
 from ..study_tables import zonal_table
-from ..zones import Zones, read_zones, settle_zones
+from ..zones import Zonal, Zones, read_zones, settle_zones
 from .words import add_seconds, asker
 
 TOOL, TABLE = "settle_zones.py", "units.csv"
@@ -46,6 +48,25 @@ def settlement_files(zones: Zones, case: Case) -> list[str]:
     return [f"{place}.{file_of(zone)}.settlement.txt" for place, zone in enumerate(there, 1)]
 
 
+class Settled:
+    """The case and its zones, and a text of `hull settle` for each zone, in the order of the names of their files."""
+
+    def __init__(self, hull: Hull, given: Namespace) -> None:
+        hull.check(given.case, given.schedule)
+        self.hull, self.given, self.case = hull, given, read_case(given.case)
+        self.zones = read_zones(given.zones, self.case)
+        self.names = settlement_files(self.zones, self.case)
+        self.texts: list[bytes] = []
+
+    def settle(self, prices: Prices) -> Settlement:
+        found = self.hull.settle(self.given.case, self.given.schedule, prices)
+        self.texts.append(self.hull.last_text)
+        return found
+
+    def zonal(self) -> Zonal:
+        return settle_zones(self.settle, self.case, read_schedule(self.given.schedule, self.case), self.zones)
+
+
 def body(words: Sequence[str], tell: Tell) -> None:
     ask = asker(TOOL, __doc__)
     for option in ("case", "schedule", "zones", "--to", "--hull"):
@@ -58,25 +79,16 @@ def body(words: Sequence[str], tell: Tell) -> None:
     hull, inputs = Hull(given.hull, tell, given.seconds), [given.case, given.schedule, given.zones]
     if given.to is not None:
         StudyFolder(given.to, inputs, TOOL).refuse([TABLE])
-    hull.check(given.case, given.schedule)
-    case = read_case(given.case)
-    zones = read_zones(given.zones, case)
-    names = settlement_files(zones, case)
-    if given.to is not None:
-        StudyFolder(given.to, inputs, TOOL).refuse(names)
-    texts: list[bytes] = []
-
-    def settle(prices: Prices) -> Settlement:
-        settlement = hull.settle(given.case, given.schedule, prices)
-        texts.append(hull.last_text)
-        return settlement
-
-    zonal = settle_zones(settle, case, read_schedule(given.schedule, case), zones)
+    with HeldFiles() as held:
+        settled = Settled(hull, held.words_of(given))
+        if given.to is not None:
+            StudyFolder(given.to, inputs, TOOL).refuse(settled.names)
+        zonal = settled.zonal()
     table = zonal_table(zonal, given.currency)
     if given.to is None:
         table.write()
         return
-    files: dict[str, Union[str, bytes]] = {TABLE: table.text(), **dict(zip(names, texts))}
+    files: dict[str, Union[str, bytes]] = {TABLE: table.text(), **dict(zip(settled.names, settled.texts))}
     write_in_folder(given.to, files, inputs, TOOL, StudyFolder, keeps=True)
 
 

@@ -59,6 +59,7 @@ from ..cases import Case, read_case
 from ..clock import Clock
 from ..errors import HullError, Tell, is_utf8, one_line, run_tool, write_together
 from ..linear import need_scipy
+from ..held_files import HeldFiles
 from ..lint import first_look
 from ..numbers import Millionths, money
 from ..prices import read_prices
@@ -225,22 +226,26 @@ def study_of(
     """
     from ..studies import Maker, Study, files_of
 
-    # (prices and zones are read here alone, and the program reads these again and again)
+    # (prices and zones are read once, and the program reads these again and again)
     read_again = [it for it in (given.case, given.schedule, given.best_schedule) if it]
     date, before = date_of_run(), sums_of_files(read_again)
-    case = read_case(given.case)
-    want = wanted(given, case)
-    look(files_of(want, not given.schedule, bool(given.schedule and not given.best_schedule and not given.no_schedule)))
-    found = schedules_of(given, hull, room, tell)
-    files = (given.case, found.schedule.name)
-    sources = (given.case, sha256_of(given.case), found.schedule, found.best)
-    with step("versions"):
-        origin = Provenance(*sources, versions(hull), command_line("study.py", list(words)), date)
-    study = Study(case, read_schedule(files[1], case), want, origin, found.cost, found.best_cost)
-    if found.missing:
-        study.is_short = True
-        study.notes.append(found.missing)
-    Maker(hull, files, study, room, tell).make(until_written)
+    with HeldFiles() as held:
+        given = held.words_of(given)
+        case = read_case(given.case)
+        want = wanted(given, case)
+        is_best_made = bool(given.schedule and not given.best_schedule and not given.no_schedule)
+        look(files_of(want, not given.schedule, is_best_made))
+        found = schedules_of(given, hull, room, tell)
+        files = (given.case, found.schedule.name)
+        best = found.best and held.named(found.best)
+        sources = (held.own(given.case), sha256_of(given.case), held.named(found.schedule), best)
+        with step("versions"):
+            origin = Provenance(*sources, versions(hull), command_line("study.py", list(words)), date)
+        study = Study(case, read_schedule(files[1], case), want, origin, found.cost, found.best_cost)
+        if found.missing:
+            study.is_short = True
+            study.notes.append(held.with_own_names(found.missing))
+        Maker(hull, files, study, room, tell).make(until_written)
     refuse_changed(before, "the lists are")
     return study
 

@@ -1,0 +1,78 @@
+"""Files that a run reads more than once. It reads copies of them, so that all that it makes is of one state of each, whatever others write meanwhile."""
+from __future__ import annotations
+
+import os
+import tempfile
+from argparse import Namespace
+from dataclasses import replace
+from types import TracebackType
+from typing import Any, Dict, Optional, Type, TypeVar
+
+from .errors import HullError, one_line, read_bytes, told_with
+from .provenance import Source
+
+MOST_BYTES = 67_108_864  # (of a file that the program takes; it says itself what it thinks of a larger one)
+Given = TypeVar("Given")
+
+
+class HeldFiles:
+    """Copies of files in a temporary folder, each made when it is asked for first. What is refused within the context has the files' own names."""
+
+    def __init__(self) -> None:
+        self.copies: Dict[str, str] = {}  # by name
+        self.folder: Optional[tempfile.TemporaryDirectory[str]] = None
+
+    def __enter__(self) -> HeldFiles:
+        return self
+
+    def __exit__(
+        self, kind: Optional[Type[BaseException]], why: Optional[BaseException], where: Optional[TracebackType]
+    ) -> None:
+        if isinstance(why, HullError):
+            why.line, why.sentence = self.with_own_names(why.line), self.with_own_names(why.sentence)
+        if self.folder:
+            self.folder.cleanup()
+
+    def of(self, given: Given) -> Given:
+        """The copy of a file; what is no file's name stays as it is, and so does a pipe, which is read once."""
+        if (
+            not isinstance(given, (str, os.PathLike))
+            or not os.path.isfile(given)
+            or os.path.getsize(given) > MOST_BYTES
+        ):
+            return given
+        name = os.fspath(given)
+        if name not in self.copies:
+            self.copies[name] = self.copied(name)
+        copy: Any = self.copies[name]
+        return copy  # type: ignore[no-any-return]
+
+    def copied(self, name: str) -> str:
+        data = read_bytes(name, "a file")
+        with told_with("a temporary folder"):
+            self.folder = self.folder or tempfile.TemporaryDirectory(prefix="hull-held-")
+            folder = os.path.join(self.folder.name, str(len(self.copies)))
+            os.mkdir(folder)
+            copy = os.path.join(folder, os.path.basename(name))
+            with open(copy, "wb") as file:
+                file.write(data)
+        return copy
+
+    def words_of(self, given: Namespace) -> Namespace:
+        """The words of a tool with copies of its case and schedules in their places."""
+        words = dict(vars(given))
+        words.update({key: self.of(words[key]) for key in ("case", "schedule", "best_schedule") if words.get(key)})
+        return Namespace(**words)
+
+    def own(self, name: str) -> str:
+        """The file's own name, of a copy or of another one."""
+        return next((it for it, copy in self.copies.items() if copy == name), name)
+
+    def named(self, source: Source) -> Source:
+        """The source of a schedule with its own name."""
+        return replace(source, name=self.own(source.name))
+
+    def with_own_names(self, text: str) -> str:
+        for name, copy in self.copies.items():
+            text = text.replace(copy, one_line(name))
+        return text
