@@ -483,6 +483,19 @@ class Studies(Room):
         self.assertIn("study.py: case.json was changed meanwhile", said)
         self.assertFalse(os.path.exists(f"{self.room}/st"))
 
+    def test_a_case_that_is_another_one_for_a_while(self) -> None:
+        """All of a study is of the case that was read first, since the program reads a copy."""
+        case, hull = f"{self.room}/case.json", f"{self.room}/changing.sh"
+        shutil.copyfile(f"{DEAR}/case.json", case)
+        change = f'[ "$1" != settle ] || echo "{{" >{case}'
+        write(hull, f'#!/bin/sh\n{change}\n{PROGRAM} "$@"; s=$?\ncp {DEAR}/case.json {case}\nexit $s\n')
+        os.chmod(hull, 0o755)
+        with self.begun("case.json", *GIVEN[1:], "--skip", "elmp,relaxation,convex_hull", "--hull", hull) as ran:
+            said = ran.communicate(timeout=300)[1]
+        self.assertEqual(ran.returncode, 0, said)
+        self.assertIn("LMP: gap 1,200.00", said)
+        self.assertIn(">case.json<", read(f"{self.room}/st/study.html"))
+
     def test_prices_that_are_changed_meanwhile_are_those_that_were_read(self) -> None:
         hull, prices = f"{self.room}/changing.sh", f"{self.room}/posted.json"
         write(prices, '{"energy": [30]}')

@@ -269,6 +269,19 @@ class Tables(InFolder):
                 words = [CASE, SCHEDULE, f"{self.room}/zones.json", "--to", self.folder, "--hull", PROGRAM]
                 settle_zones.body(words, lambda told: None)
 
+    def test_zones_are_settled_by_the_case_that_was_read_first(self) -> None:
+        case, hull, zones = (f"{self.room}/{name}" for name in ("case.json", "changing.sh", "zones.json"))
+        shutil.copyfile(CASE, case)
+        write(
+            zones,
+            json.dumps({"zones": {"A": {"energy": [98]}, "B": {"energy": [50]}}, "units": {"G1": "A"}, "default": "B"}),
+        )
+        write(hull, f'#!/bin/sh\n[ "$1" != settle ] || echo "{{" >{case}\nexec {PROGRAM} "$@"\n')
+        os.chmod(hull, 0o755)
+        due = run("settle_zones.py", CASE, SCHEDULE, zones, "--hull", PROGRAM)
+        self.assertEqual((due[0], run("settle_zones.py", case, SCHEDULE, zones, "--hull", hull)), (0, due))
+        self.assertEqual(read(case), "{\n")
+
     def test_settlements_that_cannot_be_placed_are_kept(self) -> None:
         self.made(**{"1.C.settlement.txt": "mine"})
         with self.assertRaisesRegex(NotOurs, "so it stays.*; what was made is in ") as found:
