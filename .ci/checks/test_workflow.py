@@ -132,7 +132,7 @@ class Workflow(unittest.TestCase):
         if not os.path.exists(f"{self.room}/calls"):
             return []
         lines = read(f"{self.room}/calls").decode().replace("/case.json", "").splitlines()
-        # (an audit is of copies, in a folder of such a name)
+        # (a step reads copies, in a folder of such a name)
         found = sorted(re.sub(r" .*/(?=days/)", " ", line) for line in lines)
         os.remove(f"{self.room}/calls")
         return found
@@ -232,7 +232,7 @@ class Misfortunes(Workflow):
         calls = f"{self.room}/calls"
         return (
             os.path.exists(calls)
-            and b"price days/slow" in read(calls)
+            and re.search(rb"price .*days/slow", read(calls)) is not None
             and os.path.exists(self.result("first/audit.txt"))
         )
 

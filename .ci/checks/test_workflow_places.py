@@ -297,6 +297,28 @@ class OfTheUser(Workflow):
         self.assertEqual(looks_of(f"{self.study}/results"), before)
 
 
+class Shared(Workflow):
+    """A folder that several users share."""
+
+    def test_records_of_snakemake_that_cannot_be_read_go(self) -> None:
+        runs = script("runs")
+        names = ["metadata/open", "metadata/deep/closed", "incomplete/closed", "log/closed"]
+        with tempfile.TemporaryDirectory() as room, unittest.mock.patch.object(
+            os, "access", lambda name, how: "closed" not in name
+        ):
+            for name in names:
+                os.makedirs(os.path.dirname(f"{room}/.snakemake/{name}"), exist_ok=True)
+                with open(f"{room}/.snakemake/{name}", "w", encoding="utf-8"):
+                    pass
+            before = os.getcwd()
+            os.chdir(room)
+            try:
+                runs.drop_closed_records()
+            finally:
+                os.chdir(before)
+            self.assertEqual([os.path.exists(f"{room}/.snakemake/{it}") for it in names], [True, False, False, True])
+
+
 class Words(Workflow):
     """Settings are what was written, or are refused."""
 

@@ -1,4 +1,5 @@
 """What the Snakefile needs of a run: the lock of the study, resources that grow with the case and the attempt, and the summary."""
+import contextlib
 import fcntl
 import math
 import os
@@ -16,6 +17,19 @@ from hulltools.search_limits import SECONDS
 
 Found = TypeVar("Found")
 BESIDE = (".snakemake/conda", ".snakemake/singularity")  # where Snakemake itself may keep links
+
+
+def drop_closed_records() -> None:
+    """Takes away Snakemake's own records that another user's run left in a shared folder, and that this one can't read: it would end by them.
+
+    Nothing goes by them here: the flags say what is stale, and the steps' records what was made.
+    """
+    for kind in ("metadata", "incomplete"):
+        for folder, _, files in os.walk(os.path.join(".snakemake", kind)):
+            for name in (os.path.join(folder, it) for it in files):
+                if not os.access(name, os.R_OK):
+                    with contextlib.suppress(OSError):
+                        os.unlink(name)
 
 
 def is_main(workflow: Any) -> bool:

@@ -12,6 +12,7 @@ import signal
 import subprocess
 import sys
 import tempfile
+from dataclasses import dataclass, field
 from hashlib import sha256
 from typing import Any, Callable, Dict, List, Optional
 
@@ -61,11 +62,39 @@ def last_of(said: bytes) -> str:
     return f": {text[-300:]}" if text else ""
 
 
-def hull(day: Day, command: str, *more: str, copies: Optional[Dict[str, str]] = None, **files: str) -> bytes:
-    """What the program prints with status 0 for the day's case and schedule, and for further files; it reads copies where there are such."""
+@dataclass(frozen=True)
+class HeldDay(Day):
+    """A day of which a step reads copies: whatever others write meanwhile, what it makes is of the files whose sums it notes."""
+
+    copies: Dict[str, str] = field(default_factory=dict)
+
+    def path(self, what: str) -> str:
+        return self.copies.get(what) or super().path(what)
+
+    def with_own_names(self, text: str) -> str:
+        """A text with the names of the day's files in place of those of the copies."""
+        for what, copy in self.copies.items():
+            text = text.replace(copy, super().path(what))
+        return text
+
+
+def held(day: Day, step: str, room: str, sums: Dict[str, Optional[str]]) -> HeldDay:
+    """The day with copies of all that the step takes, which have these sums."""
+    folder = f"{room}/days/{day.name}"
+    os.makedirs(folder)
+    copies = {what: f"{folder}/{os.path.basename(day.path(what))}" for what in STEPS[step].takes}
+    for what, name in copies.items():
+        refuse_too_large(day.path(what))
+        shutil.copyfile(day.path(what), name)
+        if sum_of(name) != sums[what]:
+            raise HullError("its files were changed meanwhile")
+    return HeldDay(day.name, day.settings, copies)
+
+
+def hull(day: Day, command: str, *more: str, **files: str) -> bytes:
+    """What the program prints with status 0 for the day's case and schedule, and for further files."""
     given = {"case": day.path("case"), "schedule": day.path("schedule"), **files}
-    names = {**given, **(copies or {})}
-    words = [command, *(word for key, name in names.items() for word in (f"--{key}", name)), *more]
+    words = [command, *(word for key, name in given.items() for word in (f"--{key}", name)), *more]
     with called([day.settings.program, *words], stdout=subprocess.PIPE, env=SAYS_NOTHING) as running:
         text, said = running.communicate()
     status = running.returncode
@@ -189,23 +218,14 @@ def make_convex_hull(day: Day, room: str) -> Made:
     return dict(zip(STEPS["convex_hull"].makes, made))
 
 
-def make_audit(day: Day, room: str, sums: Dict[str, Optional[str]]) -> Made:
-    """The audit of copies with these sums: whatever others write meanwhile, it is of these very files that it is noted as right."""
-    folder = f"{room}/days/{day.name}"
-    os.makedirs(folder)
-    copies = {what: f"{folder}/{os.path.basename(day.path(what))}" for what in STEPS["audit"].takes}
-    for what, name in copies.items():
-        refuse_too_large(day.path(what))
-        shutil.copyfile(day.path(what), name)
-        if sum_of(name) != sums[what]:
-            raise HullError("its files were changed meanwhile")
-    text = hull(day, "audit", "--workers", "1", copies=copies, report=day.path("report"))
+def make_audit(day: Day) -> Made:
+    text = hull(day, "audit", "--workers", "1", report=day.path("report"))
     if not RIGHT_AUDIT.fullmatch(text):
         raise HullError("hull audit ended with status 0, and its text isn't that of a right audit")
     return {"audit.txt": text}
 
 
-def make(day: Day, step: str, room: str, sums: Dict[str, Optional[str]]) -> Made:
+def make(day: Day, step: str, room: str) -> Made:
     if step == "schedule":
         return make_schedule(day, room)
     if step == "convex_hull":
@@ -214,7 +234,7 @@ def make(day: Day, step: str, room: str, sums: Dict[str, Optional[str]]) -> Made
         return make_price_list(day, step, room)
     if step == REPORT:
         return {"report.txt": report(day, *day.settings.words_of(REPORT))}
-    return make_audit(day, room, sums)
+    return make_audit(day)
 
 
 def mark_audit(day: Day, sums: Dict[str, Optional[str]]) -> None:
@@ -238,14 +258,14 @@ def keep(day: Day, step: str, of: Dict[str, Any], made: Made) -> None:
         mark_audit(day, of["of"])
 
 
-def note(day: Day, step: str, of: Dict[str, Any], why: Exception) -> None:
+def note(day: Day, step: str, of: Dict[str, Any], why: Exception, told: str) -> None:
     """Takes the step's old files away, and leaves the reason in the log and for the list of what is left."""
     refuse_taken(day, step)
     for file in STEPS[step].makes:
         drop(day.made(file))
     stays = isinstance(why, Missed) or isinstance(why, Refused) and not why.passes
-    write_record(record_name(day, step, "left"), {**of, "why": str(why), "stays": stays})
-    write_log(day, step, str(why))
+    write_record(record_name(day, step, "left"), {**of, "why": told, "stays": stays})
+    write_log(day, step, told)
 
 
 def write_log(day: Day, step: str, why: str) -> None:
@@ -268,9 +288,11 @@ def run_step(day: Day, step: str, attempt: int) -> Optional[str]:
     before = why_refused_before(day, step, of) if attempt > 1 else None
     if before:
         return before
+    copies = HeldDay(day.name, day.settings)
     try:
         with tempfile.TemporaryDirectory(prefix="hull-day-") as room:
-            keep(day, step, of, make(day, step, room, of["of"]))
+            copies = held(day, step, room, of["of"])
+            keep(day, step, of, make(copies, step, room))
         for name in (day.made(log_of(step)), record_name(day, step, "left")):
             drop(name)
         return None
@@ -278,8 +300,9 @@ def run_step(day: Day, step: str, attempt: int) -> Optional[str]:
         why: Exception = error
     except OSError as error:
         why = HullError(f"{one_line(error.filename or 'a file')}: {error.strerror or error}")
-    note(day, step, of, why)
-    return str(why) or "no memory"
+    told = copies.with_own_names(str(why)) or "no memory"
+    note(day, step, of, why, told)
+    return told
 
 
 def tell(text: str) -> None:
