@@ -1,6 +1,7 @@
 """Files that a run reads more than once. It reads copies of them, so that all that it makes is of one state of each, whatever others write meanwhile."""
 from __future__ import annotations
 
+import contextlib
 import os
 import tempfile
 from argparse import Namespace
@@ -31,7 +32,8 @@ class HeldFiles:
         if isinstance(why, HullError):
             why.line, why.sentence = self.with_own_names(why.line), self.with_own_names(why.sentence)
         if self.folder:
-            self.folder.cleanup()
+            with contextlib.suppress(OSError):
+                self.folder.cleanup()
 
     def of(self, given: Given) -> Given:
         """The copy of a file; what is no file's name stays as it is, and so does a pipe, which is read once."""
