@@ -226,6 +226,18 @@ class Csv(WithRoom):
         )
         self.assertIn("demand_bids", self.convert(f"{self.room}/case.json", f"{self.room}/back.json", status=1)[1])
 
+    def test_buyers_of_nearly_one_name_are_told(self) -> None:
+        folder = self.folder()
+        text = self.read(f"{folder}/bids.csv")
+        name = text.splitlines()[1].split(",")[0]
+        due = "assumed: buyers whose names differ by spaces or the case of letters alone are buyers of their own"
+        for other in (f"{name} ", name.swapcase(), f"{name}\u00a0"):
+            self.write("csv/bids.csv", f"{text}{other},1,1,5\n")
+            told = self.convert(folder, f"{self.room}/back.json")[0]
+            self.assertIn(f"{due} (2: {name}", told)
+        self.write("csv/bids.csv", f"{text}other,1,1,5\n")
+        self.assertNotIn("assumed", self.convert(folder, f"{self.room}/back.json")[0])
+
     def test_files_of_other_names_are_refused_or_told(self) -> None:
         folder = self.folder()
         for name, due in (("Bids.csv", "bids.csv"), ("start.csv", "starts.csv"), ("windows.CSV", "windows.csv")):

@@ -248,7 +248,19 @@ def bids_of(rows: List[Row], periods: int, notes: Notes) -> Object:
                 what = "rows of bids.csv that are alike are blocks of their own, and none stands there twice"
                 notes.assumed(what, name)
             period.append(block)
+    note_near_names(bids, notes)
     return bids
+
+
+def note_near_names(bids: Object, notes: Notes) -> None:
+    """Notes buyers whose names are one but for spaces or the case of letters, as by a slip in one row."""
+    seen: Dict[str, str] = {}
+    for name in bids:
+        other = seen.setdefault(" ".join(name.split()).casefold(), name)
+        if other != name:
+            what = "buyers whose names differ by spaces or the case of letters alone are buyers of their own"
+            notes.assumed(what, other)
+            notes.assumed(what, name)
 
 
 def rows_to_write(case: Object) -> Iterator[Tuple[str, List[str]]]:
