@@ -406,7 +406,8 @@ def study(
                 found = study_of(asked, words, program, place_of.room, said, place_of.refuse)
                 need_lists(found)
             else:
-                found = study_in(place_of, asked, words, program, said)
+                with told_with(to):  # (as where somebody takes the folder away)
+                    found = study_in(place_of, asked, words, program, said)
     if found.interrupted:
         raise found.interrupted
     found.notes = list(map(in_a_call, found.notes))

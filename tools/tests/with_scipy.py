@@ -780,6 +780,18 @@ class Calls(unittest.TestCase):
                 "piecewise_production doesn't reach from the least to the greatest power", str(found.exception)
             )
 
+    def test_a_folder_that_goes_meanwhile_is_told(self):
+        with tempfile.TemporaryDirectory(prefix="hull-study-") as room:
+            words = {"hull": PROGRAM, "no_schedule": True, "skip": ["elmp", "relaxation", "convex_hull"]}
+
+            def gone(study):
+                shutil.rmtree(f"{room}/st")
+                return {}
+
+            with mock.patch("hulltools.study_tables.tables_of_study", gone):
+                with self.assertRaisesRegex(hulltools.HullError, "No such file or directory"):
+                    hulltools.study(self.case, self.schedule, f"{room}/st", **words)
+
     def test_what_a_call_made_stays_where_it_is_interrupted(self):
         said = []
         with tempfile.TemporaryDirectory(prefix="hull-study-") as room:
