@@ -357,9 +357,9 @@ def look(names: Dict[str, str], limits: Limits = Limits()) -> Review:
     return Look(names, limits).make()
 
 
-def first_look(names: Dict[str, str], tell: Callable[[str], None]) -> List[str]:
-    """The warnings of a tool's files in words, which are told too; HullError with all errors where `hull` would refuse them."""
-    review = look(names)
+def first_look(names: Dict[str, str], tell: Callable[[str], None], hours: float = 1.0) -> List[str]:
+    """The warnings of a tool's files in words, which are told too; HullError with all errors where `hull` would refuse them. A period has so many hours."""
+    review = look(names, Limits(hours=hours))
     errors = [it.sentence for it in review.of(Level.ERROR)]
     if errors:
         more = f" And {len(errors) - SHOWN} more: tools/lint.py tells them." if len(errors) > SHOWN else ""

@@ -427,6 +427,23 @@ class Quarters(unittest.TestCase):
         self.assertEqual((rule, others), ("prices-per-kwh", []))
         self.assertIn("Prices are per MWh, so 0.1 per kWh is 100", of_prices)
 
+    def test_a_study_looks_by_the_length_that_it_is_given(self) -> None:
+        """Ramps of 3 MW a quarter of an hour are 12 % of 100 MW an hour, and of an hour 3 %, which is odd."""
+        case = market.case()
+        case["thermal_generators"]["COAL2"].update(ramp_up_limit=14, ramp_down_limit=14)
+        with tempfile.TemporaryDirectory(prefix="hull-lint-") as room:
+            with open(f"{room}/case.json", "w", encoding="utf-8") as file:
+                json.dump(case, file)
+            ramps = [
+                [
+                    it
+                    for it in first_look({"case": f"{room}/case.json"}, lambda told: None, hours)
+                    if "ramp_up_limit" in it
+                ]
+                for hours in (1, 0.25)
+            ]
+        self.assertEqual(list(map(len, ramps)), [1, 0])
+
     def test_days_have_as_many_periods_as_their_length_says(self) -> None:
         for periods, hours, due in (
             (6, 4, ""),

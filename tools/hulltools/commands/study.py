@@ -322,7 +322,8 @@ def body(words: Sequence[str], tell: Tell) -> int:
     names = {"case": given.case, "schedule": given.schedule}
     with StudyFolder(given.folder, inputs_of(given)) as folder:
         with step("looking at the files"):
-            warnings = first_look({what: name for what, name in names.items() if name}, tell)
+            there = {what: name for what, name in names.items() if name}
+            warnings = first_look(there, tell, float(given.hours_per_period or 1))
         study = study_in(folder, given, words, hull, tell, warnings)
     tell(study.sentence("at"))
     if study.interrupted:
