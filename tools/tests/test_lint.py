@@ -434,15 +434,11 @@ class Quarters(unittest.TestCase):
         with tempfile.TemporaryDirectory(prefix="hull-lint-") as room:
             with open(f"{room}/case.json", "w", encoding="utf-8") as file:
                 json.dump(case, file)
-            ramps = [
-                [
-                    it
-                    for it in first_look({"case": f"{room}/case.json"}, lambda told: None, hours)
-                    if "ramp_up_limit" in it
-                ]
-                for hours in (1, 0.25)
-            ]
-        self.assertEqual(list(map(len, ramps)), [1, 0])
+            counts = []
+            for hours in (1, 0.25):
+                found = first_look({"case": f"{room}/case.json"}, lambda told: None, hours)
+                counts.append(sum("ramp_up_limit" in line for line in found))
+        self.assertEqual(counts, [1, 0])
 
     def test_days_have_as_many_periods_as_their_length_says(self) -> None:
         for periods, hours, due in (
