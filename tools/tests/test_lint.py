@@ -428,7 +428,7 @@ class Quarters(unittest.TestCase):
         self.assertIn("Prices are per MWh, so 0.1 per kWh is 100", of_prices)
 
     def test_a_study_looks_by_the_length_that_it_is_given(self) -> None:
-        """Ramps of 3 MW a quarter of an hour are 12 % of 100 MW an hour, and of an hour 3 %, which is odd."""
+        """Ramps of 14 MW a period are 4 % of 350 MW, which is odd of an hour; of a quarter they are 16 % an hour."""
         case = market.case()
         case["thermal_generators"]["COAL2"].update(ramp_up_limit=14, ramp_down_limit=14)
         with tempfile.TemporaryDirectory(prefix="hull-lint-") as room:
