@@ -345,7 +345,10 @@ def refuse_twice_named(columns: Optional[Sequence[str]], name: str) -> None:
         raise HullError(f"{name}: the column {one_line(twice)!r} stands twice")
 
 
-def read_bytes(name: Name, what: str, most: int = 67_108_864, begins: bytes = b"") -> bytes:
+MOST_BYTES = 67_108_864  # of a file that the program takes
+
+
+def read_bytes(name: Name, what: str, most: int = MOST_BYTES, begins: bytes = b"") -> bytes:
     """The bytes of a file, or of standard input where the name is `-`; of one that doesn't begin as is due perhaps only the first ones."""
     if not isinstance(name, (str, os.PathLike)):
         raise HullError(f"a file's name is due, of {what}, and no `{type(name).__name__}`")

@@ -9,10 +9,10 @@ from dataclasses import replace
 from types import TracebackType
 from typing import Any, Dict, Optional, Type, TypeVar
 
-from .errors import HullError, one_line, read_bytes, told_with
+from .errors import MOST_BYTES, HullError, one_line, read_bytes, told_with
+from .inputs import is_name
 from .provenance import Source
 
-MOST_BYTES = 67_108_864  # (of a file that the program takes; it says itself what it thinks of a larger one)
 Given = TypeVar("Given")
 
 
@@ -36,12 +36,8 @@ class HeldFiles:
                 self.folder.cleanup()
 
     def of(self, given: Given) -> Given:
-        """The copy of a file; what is no file's name stays as it is, and so does a pipe, which is read once."""
-        if (
-            not isinstance(given, (str, os.PathLike))
-            or not os.path.isfile(given)
-            or os.path.getsize(given) > MOST_BYTES
-        ):
+        """The copy of a file. What is no file's name stays as it is, and so do a pipe, which is read once, and what the program refuses for its size."""
+        if not is_name(given) or not os.path.isfile(given) or os.path.getsize(given) > MOST_BYTES:
             return given
         name = os.fspath(given)
         if name not in self.copies:

@@ -1008,7 +1008,7 @@ class Sweep(unittest.TestCase):
         self.assertEqual((status, list(self.gaps())), (1, ["base"]))
         self.assertIn("outage COAL is left out: the case can't be met: in period 1 the units give at most 100 MW", said)
         with open(f"{self.room}/UNFINISHED.txt", encoding="utf-8") as file:
-            due = "Left out: 1 of 2 scenarios are done. A folder of another one is of a sweep before.\n"
+            due = "Left out: 1 of 2 scenarios are done. A folder of another one may be of a sweep before.\n"
             self.assertEqual(file.read(), due)
 
     def test_a_scenario_of_which_a_list_failed_is_made_anew(self):

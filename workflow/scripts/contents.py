@@ -13,11 +13,10 @@ import time
 from typing import Any, Callable, Dict, Iterator, List, Mapping, Optional, Tuple
 
 from days import REPORT, STEPS, Day, Settings
-from hulltools.errors import HullError, one_line, told_with
+from hulltools.errors import MOST_BYTES, HullError, one_line, told_with
 
 HIDDEN = ".steps"  # the folder of records and flags
 CHUNK = 1 << 20
-MOST_BYTES = 67_108_864  # (of a file that hull takes)
 MOST_SECONDS_OF_WAIT = 300
 PROGRAM = "program: "  # (begins a line of a mark)
 # Options by which a step makes the same, if it makes it: a schedule that the clock chose isn't taken.

@@ -33,10 +33,8 @@ from hulltools.program import MOST_WORK, Hull
 
 Made = Dict[str, bytes]
 PASSING = ("2", "7")  # statuses of what may pass: a file that can't be read, no memory
-SAYS_NOTHING = {
-    **os.environ,
-    "HULL_EXPLAIN": "0",
-}  # (a launcher that explains nothing becomes the program, which ends with the step)
+# (a launcher that explains nothing becomes the program, which ends with the step)
+SAYS_NOTHING = {**os.environ, "HULL_EXPLAIN": "0"}
 RIGHT_AUDIT = re.compile(rb"hull-audit 1\nproposals [0-9]+\nright\n")
 
 

@@ -303,7 +303,7 @@ def body(words: Sequence[str], tell: Tell) -> int:
         tell(f"interrupted: {of_all}; the same words {'go on with the others' if goes_on else 'make all anew'}")
         return why.status
     of_all = f"{len(sweep.tables)} of {len(sweep.scenarios)} scenarios are done"
-    sweep.write(f"Left out: {of_all}. A folder of another one is of a sweep before." if sweep.left_out else "")
+    sweep.write(f"Left out: {of_all}. A folder of another one may be of a sweep before." if sweep.left_out else "")
     return 1 if sweep.left_out else SHORT if sweep.is_less else 0
 
 
