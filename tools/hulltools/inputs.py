@@ -17,7 +17,17 @@ from .json_texts import STATUS, Refused, json_text, parse, refused_as
 from .lint_keys import KEYS
 from .mixtures import Mixture
 from .numbers import PRICE_LIMIT, MillionthsPerKilowatt
-from .options import counted, float_of, hint_of, is_list, items_of, number_option, refuse_backward, told_value
+from .options import (
+    counted,
+    float_of,
+    hint_of,
+    is_list,
+    items_of,
+    number_option,
+    refuse_backward,
+    refuse_other_times,
+    told_value,
+)
 from .prices import FlatPrices, Prices, PriceSource, prices_of, read_prices
 from .schedules import Schedule, read_schedule, schedule_of
 from .zones import PRICES_KEYS, ZONES_KEYS, Zones, read_zones, zones_of
@@ -235,6 +245,7 @@ def as_schedule(given: GivenSchedule, case: Case) -> Schedule:
 def as_prices(given: GivenPrices, case: Case) -> Prices:
     """The prices, for a case; of a file that is a text of `hull price`, `settle` or `convex`, those of the text."""
     if isinstance(given, dict):
+        refuse_other_times("the energy prices", given.get("energy"), "the reserve prices", given.get("reserve"))
         return prices_of(told("prices"), value_of("prices", given), case.periods)
     if isinstance(given, FlatPrices):
         return given.over(case.periods)
@@ -357,7 +368,7 @@ def per_mwh(
     A period is an hour where `hours_per_period` says nothing else. Energy and reserve have a number for each period,
     or one number that holds in all. Reserve prices are 0 where they are left out. Where neither is a list the prices
     are `FlatPrices`, and fit a case of any periods. Raises `HullError` where one is no number, or is out of the
-    limits of docs/FORMATS.md, or where the lists differ in length.
+    limits of docs/FORMATS.md, or where the lists differ in length, or are series of different times.
     """
     hours = number_option("hours_per_period", hours_per_period, 0, above=True)
     energies = prices_of_numbers("energy", energy, -PRICE_LIMIT, hours)
@@ -367,5 +378,6 @@ def per_mwh(
         raise HullError(f"there are not as many reserve prices as energy prices: {periods[1]} and {periods[0]}")
     if not periods:
         return FlatPrices(energies[0], reserves[0])
+    refuse_other_times("the energy prices", energy, "the reserve prices", reserve)
     most = max(periods)
     return Prices(energies if is_list(energy) else energies * most, reserves if is_list(reserve) else reserves * most)

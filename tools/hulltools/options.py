@@ -126,26 +126,44 @@ def kind_of_time(given: Any) -> tuple[str, bool]:
     return next(name for name, kind in kinds if isinstance(given, kind)), getattr(given, "tzinfo", None) is not None
 
 
-def refuse_backward(name: str, given: Any) -> None:
-    """Refuses a series of pandas whose times go back, as where the last one stands first: its numbers are taken by their places."""
+def times_in(given: Any) -> list[Any]:
+    """The times that are labels of a series of pandas; none where they aren't all of one kind."""
     index = getattr(given, "index", ())
     times = [] if callable(index) else [it for it in map(time_of_label, index) if it is not None]
-    kinds = set(map(kind_of_time, times))
-    if len(kinds) != 1:
+    return times if len(set(map(kind_of_time, times))) == 1 else []
+
+
+def is_end_of_summer(times: list[Any], place: int) -> bool:
+    """Whether local times go back there as where summer ends: by an hour less a step, which those around it are too."""
+    step = timedelta(hours=1) - (times[place - 1] - times[place])
+    steps = [other - one for one, other in zip(times, times[1:])]
+    around = steps[max(place - 2, 0) : place - 1] + steps[place : place + 1]
+    return step > timedelta(0) and all(it == step for it in around)
+
+
+def refuse_backward(name: str, given: Any) -> None:
+    """Refuses a series of pandas whose times go back, as where the last one stands first: its numbers are taken by their places."""
+    times = times_in(given)
+    back = [place for place, (one, other) in enumerate(zip(times, times[1:]), 1) if other < one]
+    if not back:
         return
-    back = [(one, other) for one, other in zip(times, times[1:]) if other < one]
-    kind, has_zone = kinds.pop()
-    # (times of a day pass midnight, and where summer ends those without an offset go back once, by less than an hour)
-    is_clock = (
-        kind == "time"
-        or kind == "datetime"
-        and not has_zone
-        and back[:1]
-        and back[0][0] - back[0][1] < timedelta(hours=1)
-    )
-    if back and not (is_clock and len(back) == 1):
-        one, other = (told_value(it) for it in back[0])
+    kind, has_zone = kind_of_time(times[0])
+    # (times of a day pass midnight once)
+    is_clock = kind == "time" or kind == "datetime" and not has_zone and is_end_of_summer(times, back[0])
+    if not (is_clock and len(back) == 1):
+        one, other = (told_value(it) for it in times[back[0] - 1 : back[0] + 1])
         raise HullError(f"{name}: its times go back from {one} to {other}, and the order of time is due")
+
+
+def refuse_other_times(name: str, given: Any, beside: str, other: Any) -> None:
+    """Refuses two series of pandas of one length and different times, as of two days: their numbers would be paired by their places."""
+    times, others = times_in(given), times_in(other)
+    if len(times) != len(others) or not times or kind_of_time(times[0]) != kind_of_time(others[0]):
+        return
+    odd = next(((t, *pair) for t, pair in enumerate(zip(times, others), 1) if pair[0] != pair[1]), None)
+    if odd:
+        told = f"{told_value(odd[1])} and {told_value(odd[2])}"
+        raise HullError(f"{name} and {beside} are of different times: period {odd[0]} is {told}", period=odd[0])
 
 
 def items_of(name: str, given: Any) -> list[Any]:

@@ -9,7 +9,7 @@ from typing import TYPE_CHECKING, Any, Optional, SupportsFloat
 from .errors import HullError, Name, one_line, write_whole
 from .json_texts import is_number, read_json, refused_as
 from .numbers import PRICE_LIMIT, MillionthsPerKilowatt, decimal_text, in_currency_per_mw, price
-from .options import FieldsAlone, counted, float_of, is_list, items_of, told_value, whole_option
+from .options import FieldsAlone, counted, float_of, is_list, items_of, refuse_other_times, told_value, whole_option
 
 if TYPE_CHECKING:
     from pandas import DataFrame
@@ -69,6 +69,7 @@ class Prices(FieldsAlone, PriceSource):
         lengths = [len(items_of(f"the {key} prices", getattr(self, key))) for key in ("energy", "reserve")]
         if lengths[0] != lengths[1]:
             raise HullError(f"there are not as many reserve prices as energy prices: {lengths[1]} and {lengths[0]}")
+        refuse_other_times("the energy prices", self.energy, "the reserve prices", self.reserve)
         for key, numbers, least in (("energy", self.energy, -PRICE_LIMIT), ("reserve", self.reserve, 0)):
             for t, number in enumerate(numbers, 1):
                 try:

@@ -7,7 +7,7 @@ import csv
 import io
 import re
 from collections.abc import Iterable, Sequence
-from datetime import datetime
+from datetime import datetime, timezone
 from decimal import Decimal
 from fractions import Fraction
 from typing import TYPE_CHECKING, Any, Optional, SupportsFloat, Union, cast
@@ -255,7 +255,13 @@ def start_of(pandas: Any, start: Start) -> Any:
 
 def time_of(start: Any) -> Any:
     """The time that a text says: pandas would take others too, as the time of today, and read UTC+2 as two hours behind."""
-    return time_of_text(start) if isinstance(start, str) else start
+    if isinstance(start, str):
+        return time_of_text(start)
+    if isinstance(start, datetime) and start.tzinfo is not None:
+        there = start.astimezone(timezone.utc).astimezone(start.tzinfo)
+        if there.replace(tzinfo=None) != start.replace(tzinfo=None):
+            raise HullError(f"start is {told_value(start)}: clocks skip this time")
+    return start
 
 
 def is_number_text(start: object) -> bool:

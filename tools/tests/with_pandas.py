@@ -155,6 +155,18 @@ class Columns(unittest.TestCase):
         self.assertEqual((str(times.tz), times.hour[:5].tolist()), ("Europe/Berlin", [0, 1, 2, 2, 3]))
         self.assertEqual([it.isoformat()[19:] for it in times[1:5]], ["+02:00", "+02:00", "+01:00", "+01:00"])
 
+    def test_a_start_that_clocks_skip_is_refused(self):
+        """02:30 isn't there where clocks go from 2 to 3; behind it an index would begin an hour later or earlier."""
+        zone, prices = zoneinfo.ZoneInfo("Europe/Berlin"), hulltools.per_mwh(30).over(4)
+        with self.assertRaises(hulltools.HullError) as found:
+            prices.frame(datetime(2026, 3, 29, 2, 30, tzinfo=zone))
+        self.assertEqual(found.exception.sentence, "start is 2026-03-29 02:30:00+01:00: clocks skip this time")
+        for hour in (1, 3):
+            self.assertEqual(prices.frame(datetime(2026, 3, 29, hour, 30, tzinfo=zone)).index[0].hour, hour)
+        for fold in (0, 1):  # (where summer ends both are there)
+            begins = prices.frame(datetime(2026, 10, 25, 2, 30, tzinfo=zone, fold=fold)).index[0]
+            self.assertEqual((begins.hour, begins.utcoffset().seconds), (2, 7200 - 3600 * fold))
+
     def test_periods_that_may_be_quarter_hours_have_a_length(self):
         prices = hulltools.per_mwh(30).over(96)
         with self.assertRaises(hulltools.HullError) as found:
@@ -228,6 +240,32 @@ class Set(unittest.TestCase):
         for times in (pandas.to_timedelta([2, 1, 0], "h"), texts, joined, gap, days, clock):
             with self.assertRaisesRegex(hulltools.HullError, "the energy prices: its times go back from "):
                 hulltools.per_mwh(pandas.Series(range(len(times)), index=times))
+
+    def test_half_hours_that_stand_the_wrong_way_round_are_refused(self):
+        """Where summer ends local times go back by half an hour too, and the steps around it are half hours."""
+        for clocks in (("00:00", "01:00", "00:30", "01:30"), ("00:30", "00:00", "01:00"), ("01:00", "01:30", "01:15")):
+            series = pandas.Series(range(len(clocks)), index=[f"2026-10-25T{it}" for it in clocks])
+            with self.assertRaisesRegex(hulltools.HullError, "the energy prices: its times go back from "):
+                hulltools.per_mwh(series)
+
+    def test_prices_of_two_days_are_refused(self):
+        """They would be paired by their places."""
+        hours = pandas.date_range("2026-07-01", periods=6, freq="h")
+        energy, reserve = pandas.Series(range(6), index=hours), pandas.Series(range(6), index=hours)
+        self.assertEqual(hulltools.per_mwh(energy, reserve).reserve, [it * 1000 for it in range(6)])
+        reserve.index = [*hours[:2], *(hours[2:] + pandas.Timedelta(days=1))]
+        prices = hulltools.per_mwh(list(range(6)))
+        prices.energy, prices.reserve = energy, reserve
+        times = "period 3 is 2026-07-01 02:00:00 and 2026-07-02 02:00:00"
+        due = f"the energy prices and the reserve prices are of different times: {times}"
+        for call in (
+            lambda: hulltools.per_mwh(energy, reserve),
+            lambda: hulltools.inputs.as_prices({"energy": energy, "reserve": reserve}, self.case),
+            lambda: hulltools.inputs.as_prices(prices, self.case),
+        ):
+            with self.assertRaises(hulltools.HullError) as found:
+                call()
+            self.assertTrue(found.exception.sentence.endswith(due), found.exception.sentence)
 
     def test_series_whose_order_is_sure_are_taken(self):
         """Whole numbers come of sorted and of joined frames; a clock without an offset goes back once, in autumn."""
