@@ -305,6 +305,14 @@ class Csv(WithRoom):
             self.assertTrue(os.path.exists(left) and os.path.exists(f"{self.room}/{to}"))
             os.remove(left)
 
+    def test_what_is_left_out_may_lie_in_the_new_folder(self) -> None:
+        case, folder = self.write("case.json", market.text(market.case())), f"{self.room}/of/day"
+        self.convert(case, folder, "--left-out", f"{folder}/none/left.json", status=1)
+        self.assertFalse(os.path.exists(folder))
+        for _ in range(2):
+            self.convert(case, folder, "--left-out", f"{folder}/left.json")
+            self.assertTrue({"left.json", "units.csv"} <= set(os.listdir(folder)))
+
     def test_no_empty_folder_is_left_where_nothing_can_be_written(self) -> None:
         folder = mock.patch("hulltools.study_folder.write_together", side_effect=OSError(28, "No space left on device"))
         case = market.case()

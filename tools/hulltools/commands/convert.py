@@ -14,6 +14,7 @@ A CSV file in TO that this tool didn't make, or that was changed since, is refus
 that stands in place of no file of its own.
 docs/CSV.md says what is read of each form. It needs neither the program nor SciPy.
 """
+import contextlib
 import json
 import os
 import tempfile
@@ -91,8 +92,17 @@ def write_folder(to: str, case: Object, inputs: List[str], left: Dict[str, str])
     """Writes the CSV files, and the file of what was left out, together."""
     refuse_inputs(to, inputs)
     refuse_files(to, inputs)
-    with written_beside(left, inputs, follow_links=True):
-        write_csv(to, case, inputs)
+    is_new = bool(left) and not os.path.lexists(to)
+    if is_new:  # (what was left out may be due in it)
+        with told_with(to):
+            os.makedirs(to)
+    try:
+        with written_beside(left, inputs, follow_links=True):
+            write_csv(to, case, inputs)
+    finally:
+        if is_new:
+            with contextlib.suppress(OSError):  # (something is there)
+                os.rmdir(to)
 
 
 def tell_oddities(to: str, case: Object, review: Review, tell: Callable[[str], None]) -> None:
