@@ -1080,6 +1080,10 @@ class Sweep(unittest.TestCase):
         with open(f"{self.room}/sweep.csv", encoding="utf-8") as file:
             about = {row["scenario"]: row["about"] for row in csv.DictReader(file) if row["list"] == "ELMP"}
         self.assertEqual([it.split("Fast-start: ")[1] for it in about.values()], ["BLOCK, PEAKER", "BLOCK"])
+        self.assertIn("PEAKER of --fast-start is out\n", said)
+        status, said = self.sweep("--outage", "PEAKER", "--", "--fast-start", "PEAKER", "--skip", "convex_hull")
+        self.assertEqual(status, 0, said)
+        self.assertIn("PEAKER of --fast-start is out, and no other unit is named: there is no list ELMP\n", said)
         status, said = self.sweep("--", "--fast-start", "NONE")
         self.assertEqual((status, said), (1, 'sweep.py: the case has no thermal unit "NONE"\n'))
 

@@ -150,7 +150,11 @@ def make_scenario(
     given, shown = study_arguments([case_file, place.named, *words]), os.path.join(place.named, CASE)
     if given.fast_start:  # (the case as it is has all of these, and this one perhaps not: a unit is out)
         there = {unit.name for unit in read_case(case_file).thermal}
+        out = [name for name in given.fast_start if name not in there]
         given.fast_start = [name for name in given.fast_start if name in there]
+        if out:
+            less = "" if given.fast_start else ", and no other unit is named: there is no list ELMP"
+            tell(f"{one_line(', '.join(out))} of --fast-start is out{less}")
     study = study_of(given, [shown, place.named, *words], hull, place.room, tell, place.refuse, until_written)
     need_lists(study)
     if study.interrupted:
