@@ -8,12 +8,14 @@ import functools
 import hashlib
 import json
 import os
+import signal
+import sys
 import tempfile
 import time
 from typing import Any, Callable, Dict, Iterator, List, Mapping, Optional, Tuple
 
 from days import REPORT, STEPS, Day, Settings
-from hulltools.errors import MOST_BYTES, HullError, one_line, told_with
+from hulltools.errors import ENDS, MOST_BYTES, HullError, one_line, told_with
 
 HIDDEN = ".steps"  # the folder of records and flags
 CHUNK = 1 << 20
@@ -21,6 +23,18 @@ MOST_SECONDS_OF_WAIT = 300
 PROGRAM = "program: "  # (begins a line of a mark)
 # Options by which a step makes the same, if it makes it: a schedule that the clock chose isn't taken.
 LIMITS = {"schedule": "--seconds", "elmp": "--seconds", REPORT: "--workers"}
+
+
+def end_quietly(number: int, frame: object) -> None:
+    """Ends the process so that its temporary files go too."""
+    sys.exit(128 + number)
+
+
+def hear_ends() -> None:
+    """An interrupt ends the process quietly from now on."""
+    for number in ENDS:
+        if number != signal.SIGHUP or signal.getsignal(number) is not signal.SIG_IGN:  # (`nohup` keeps that one away)
+            signal.signal(number, end_quietly)
 
 
 def refuse_too_large(name: str) -> None:

@@ -16,15 +16,17 @@ from dataclasses import dataclass, field
 from hashlib import sha256
 from typing import Any, Callable, Dict, List, Optional
 
+if __name__ == "__main__" and signal.getsignal(signal.SIGINT) is signal.default_int_handler:
+    signal.signal(signal.SIGINT, signal.SIG_DFL)  # (an interrupt while modules are loaded has no traceback)
 # (`python3 -I` and PYTHONSAFEPATH leave the folder out)
 sys.path.insert(0, os.path.dirname(os.path.realpath(__file__)))
 
-from contents import PROGRAM, alone, audit_mark, basis, drop, log_of, make_folders, record_name, record_of, refuse_taken
-from contents import refuse_too_large, sum_of, why_not_current, write_record, write_whole
+from contents import PROGRAM, alone, audit_mark, basis, drop, hear_ends, log_of, make_folders, record_name, record_of
+from contents import refuse_taken, refuse_too_large, sum_of, why_not_current, write_record, write_whole
 from days import HOME, LISTS, REPORT, STEPS, Day, handed_settings, refusal_of_name, shown
 from hulltools.apart import die_with_parent
 from hulltools.commands.words import CUT, MISSED_GAP, Asker
-from hulltools.errors import ENDS, HullError, begun, one_line
+from hulltools.errors import HullError, begun, one_line
 from hulltools.faults import sentence
 from hulltools.named_files import Files
 from hulltools.outputs import parse_output
@@ -325,15 +327,8 @@ def body(words: List[str]) -> Optional[str]:
         return run_step(day, given.step, given.attempt)
 
 
-def end_quietly(number: int, frame: object) -> None:
-    """Ends the step so that its temporary folder goes too."""
-    sys.exit(128 + number)
-
-
 def main() -> int:
-    for number in ENDS:
-        if number != signal.SIGHUP or signal.getsignal(number) is not signal.SIG_IGN:  # (`nohup` keeps that one away)
-            signal.signal(number, end_quietly)
+    hear_ends()
     try:
         why = body(sys.argv[1:])
     except HullError as error:

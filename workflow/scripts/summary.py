@@ -7,15 +7,18 @@ it isn't chosen by who can write FILE.
 Status 1 where a day is left. What counts is what the files hold: a result of other files, or one that was changed, isn't in the table.
 """
 import os
+import signal
 import sys
 from dataclasses import dataclass, field, replace
 from typing import Dict, List, Optional, Tuple
 
+if __name__ == "__main__" and signal.getsignal(signal.SIGINT) is signal.default_int_handler:
+    signal.signal(signal.SIGINT, signal.SIG_DFL)  # (an interrupt while modules are loaded has no traceback)
 # (`python3 -I` and PYTHONSAFEPATH leave the folder out)
 sys.path.insert(0, os.path.dirname(os.path.realpath(__file__)))
 
-from contents import HIDDEN, auditor, basis, is_marked, read_record, record_of, refuse_links, sum_of, why_not_current
-from contents import write_record
+from contents import HIDDEN, auditor, basis, hear_ends, is_marked, read_record, record_of, refuse_links, sum_of
+from contents import why_not_current, write_record
 from days import FILES, LISTS, REPORT, STEPS, Day, Settings, audits_folder, handed_settings, read_settings, shown
 from plan import plan_of
 from runs import refuse_audits_inside, settings_file
@@ -247,6 +250,7 @@ def body(words: List[str]) -> int:
 
 
 def main() -> int:
+    hear_ends()
     try:
         return body(sys.argv[1:])
     except HullError as error:
