@@ -594,6 +594,17 @@ class Ended(unittest.TestCase):
             time.sleep(0.05)
         return int(read(name))
 
+    def test_a_tool_takes_its_files_away_where_its_step_is_interrupted(self) -> None:
+        own = f"{self.room}/own"
+        text = f"mkdir {own}\ntrap 'rm -r {own}; kill $!; exit' TERM\nsleep 600 &\necho $$ >{self.room}/tool\nwait\n"
+        write_program(f"{self.room}/python", f"#!/bin/sh\n{text}")
+        with self.begun() as running:
+            self.tool()
+            self.assertTrue(os.path.isdir(own))
+            running.send_signal(signal.SIGTERM)
+            running.communicate(timeout=60)
+        self.assertEqual((running.returncode, os.path.exists(own)), (143, False))
+
     def test_a_tool_is_ended_with_its_step(self) -> None:
         for number, status in ((signal.SIGTERM, 143), (signal.SIGINT, 130), (signal.SIGKILL, -9)):
             with self.begun() as running:

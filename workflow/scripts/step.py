@@ -14,7 +14,7 @@ import sys
 import tempfile
 from dataclasses import dataclass, field
 from hashlib import sha256
-from typing import Any, Callable, Dict, List, Optional
+from typing import Any, Callable, Dict, Iterator, List, Optional
 
 if __name__ == "__main__" and signal.getsignal(signal.SIGINT) is signal.default_int_handler:
     signal.signal(signal.SIGINT, signal.SIG_DFL)  # (an interrupt while modules are loaded has no traceback)
@@ -34,6 +34,7 @@ from hulltools.prices import Prices
 from hulltools.program import MOST_WORK, Hull
 
 Made = Dict[str, bytes]
+SECONDS_TO_END = 2
 PASSING = ("2", "7")  # statuses of what may pass: a file that can't be read, no memory
 # (a launcher that explains nothing becomes the program, which ends with the step)
 SAYS_NOTHING = {**os.environ, "HULL_EXPLAIN": "0"}
@@ -55,6 +56,27 @@ class Refused(Exception):
 def called(line: List[str], **how: Any) -> "contextlib.AbstractContextManager[subprocess.Popen[bytes]]":
     """A process that a step calls. It is ended with the step, however that ends: nobody would take what it makes."""
     return begun(line, stdin=subprocess.DEVNULL, stderr=subprocess.PIPE, preexec_fn=die_with_parent, **how)
+
+
+@contextlib.contextmanager
+def left_to_end(running: "subprocess.Popen[bytes]") -> Iterator[None]:
+    """Where the step ends early its tool has some seconds to take away its temporary files: an interrupt at a terminal comes to both."""
+    try:
+        yield
+    except BaseException:
+        if not is_at_end(running):
+            running.terminate()
+            is_at_end(running)
+        raise
+
+
+def is_at_end(running: "subprocess.Popen[bytes]") -> bool:
+    """Whether the process ends within some seconds."""
+    try:
+        running.wait(SECONDS_TO_END)
+    except subprocess.TimeoutExpired:
+        return False
+    return True
 
 
 def last_of(said: bytes) -> str:
@@ -116,7 +138,7 @@ def in_words(line: str, files: Files) -> str:
 def tool(day: Day, name: str, *words: str) -> None:
     """Runs a tool of the repository; what it says goes on to standard error."""
     program = [day.settings.python, os.path.join(HOME, "tools", name), *words]
-    with called(program) as running:
+    with called(program) as running, left_to_end(running):
         assert running.stderr is not None
         last = ""
         for line in running.stderr:
