@@ -176,6 +176,10 @@ def elmp(
     cost = None if most_cost is None else millionths(str(number_option("most_cost", most_cost, 0)))
     if isinstance(fast_start, str):
         raise HullError(f"fast_start is {told_value(fast_start)}: a list of names is due, as [{fast_start!r}]")
+    if fast_start is not None and (most_cost is not None or most_up != FastStart.most_up):
+        raise HullError("fast_start is given, and most_up or most_cost, which are a rule in place of names")
+    if not is_flag(online_only):
+        raise HullError(f"online_only is {told_value(online_only)}: True or False is due")
     need_scipy()
     fast = FastStart(None if fast_start is None else tuple(fast_start), most_up, cost, online_only)
     with HeldFiles() as held:

@@ -121,6 +121,10 @@ def differences(statement: Dict[str, Millionths], units: List[Owed], rule: str) 
         f"{owed.kind}:{owed.name}" if len(known[owed.name]) > 1 else owed.name: Millionths(paid(owed, rule))
         for owed in units
     }
+    if len(settled) < len(units):
+        raise HullError(
+            "the settlement has two units that a statement can't tell apart: one's name is another's kind and name"
+        )
     names = [*settled, *(name for name in statement if name not in settled)]
     found = [Difference(name, statement.get(name), settled.get(name)) for name in names]
     return sorted(found, key=lambda it: (-abs(it.amount), it.unit))

@@ -435,6 +435,8 @@ class Compare(unittest.TestCase):
             statement_of("s", "unit,amount\nA,5\n", units)
         rows = [(it.unit, it.amount) for it in differences({"thermal:A": 5}, units, "full")]
         self.assertEqual(rows, [("B", -9), ("bid:A", -7), ("thermal:A", 0)])
+        with self.assertRaisesRegex(hulltools.HullError, "two units that a statement can't tell apart"):
+            differences({}, [*units, Owed("bid", "thermal:A", 3, 0, 3)], "full")
 
     def test_spaces_around_a_name_are_left_out_where_no_unit_has_them(self):
         units = [Owed("thermal", "A", 5, 0, 5), Owed("thermal", "A ", 7, 0, 7), Owed("thermal", "B", 9, 0, 9)]

@@ -581,6 +581,8 @@ class Calls(unittest.TestCase):
             (lambda: hulltools.lmp(*given, seconds="x"), "seconds is x: a number of at least 0 and at most"),
             (lambda: hulltools.elmp(*given, most_up=1.5), "most_up is 1.5: a whole number from 0 to 1,000,000 is due"),
             (lambda: hulltools.elmp(*given, fast_start="GT"), r"fast_start is GT: .* as \['GT'\]"),
+            (lambda: hulltools.elmp(*given, online_only="no"), "online_only is no: True or False is due"),
+            (lambda: hulltools.elmp(*given, fast_start=["GT"], most_up=2), "fast_start is given, and most_up or most_"),
             (lambda: hulltools.study(*given, titel="x"), "`study` has no option `titel`: is `title` meant"),
             (lambda: hulltools.study(*given, rounds="x"), "an option of `study` is refused: argument `rounds`: .*'x'"),
             (lambda: hulltools.study(*given, skip="foo"), "`skip` foo: there is no such list: these are convex_hull, "),
