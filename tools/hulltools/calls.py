@@ -169,8 +169,9 @@ def elmp(
     """ELMPs, in millionths per kilowatt: LMPs with fast-start units relaxed, and the commitments of the others held.
 
     Fast-start are the units that `fast_start` names, or else those of a minimum up time of at most `most_up` periods whose dearest start costs
-    at most `most_cost`, in the currency. With `online_only` such a unit stays off where the schedule has it off. Raises `HullError` where the
-    case has no unit of a name, or where the schedule isn't feasible, and `OverTime` where the solver or the program takes longer than `seconds`.
+    at most `most_cost`, in the currency. With `online_only` such a unit stays off where the schedule has it off. Raises `HullError` where names
+    and a rule are given, where the case has no unit of a name, or where the schedule isn't feasible, and `OverTime` where the solver or the
+    program takes longer than `seconds`.
     """
     seconds, most_up = seconds_option(seconds), whole_option("most_up", most_up, 0, TIME)
     cost = None if most_cost is None else millionths(str(number_option("most_cost", most_cost, 0)))
