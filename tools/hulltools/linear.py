@@ -18,6 +18,8 @@ except (ImportError, MemoryError, OSError) as error:
     WHY_MISSING = error
 
 INFINITY = float("inf")
+ROUGHLY = 1e-5  # a share of a row's numbers: solvers keep rows but for a part of that
+TRIFLE = 1e-6  # a share of a cost: less is within what the solver takes for the same
 Term = tuple[int, float]  # a variable by its number, and its factor
 
 
@@ -33,6 +35,11 @@ def need_scipy() -> None:
 def was_cut_by_the_clock(found: Any) -> bool:
     """Whether the solver's answer depends on how fast it was."""
     return bool(found.status == 1 and found.message.startswith("Time limit"))
+
+
+def is_below(cost: float, bound: float) -> bool:
+    """Whether a cost is below a bound that the solver says, by more than it may be wrong for want of digits."""
+    return cost < bound - TRIFLE * max(1.0, abs(bound))
 
 
 @dataclass
@@ -86,18 +93,25 @@ class Program:
         return coo_matrix((self.factors, (self.rows, self.columns)), shape=shape).tocsr()
 
     def solve(self, **options: float) -> Any:
-        """HiGHS' answer with whole variables whole."""
+        """HiGHS' answer with whole variables whole; a solution that it says, and that is none, is refused."""
         if not self.low:
             self.variable(0, 0)  # (SciPy wants one)
         limits = [LinearConstraint(self.table(), self.from_, self.to)] if self.from_ else []
         given: dict[str, Any] = dict(integrality=self.whole, bounds=Bounds(self.low, self.high), constraints=limits)
-        found = milp(self.cost, **given, options=options)
-        if found.status != 2:
-            return found
-        # (HiGHS has called programs of a few kilowatts infeasible that weren't, in its first simplifications)
-        seconds = min(60.0, options.get("time_limit", 60.0))
-        again = milp(self.cost, **given, options={**options, "presolve": False, "time_limit": seconds})
-        return found if was_cut_by_the_clock(again) else again
+        # (in what it simplifies first HiGHS has missed solutions, and the best one, and has broken rows; without that it takes no longer)
+        found = milp(self.cost, **given, options=dict(options, presolve=False))
+        if found.x is not None and not self.is_kept_by(found.x):
+            raise HullError("the solver's answer isn't a solution of its program: try another --gap")
+        return found
+
+    def is_kept_by(self, x: Any) -> bool:
+        """Whether a solution keeps rows and bounds, but for what a solver takes for nothing."""
+        table = self.table()
+        sums, room = table @ x, ROUGHLY * np.maximum(1.0, abs(table) @ abs(x))
+        is_within = (sums >= np.array(self.from_) - room) & (sums <= np.array(self.to) + room)
+        high = np.array(self.high) + ROUGHLY * np.maximum(1.0, abs(x))
+        low = np.array(self.low) - ROUGHLY * np.maximum(1.0, abs(x))
+        return bool(is_within.all() and (low <= x).all() and (x <= high).all())
 
     def solve_linear(self, method: str = "highs") -> Optional[Solved]:
         """The solution without whole variables, with the duals of the rows; None where there is none."""

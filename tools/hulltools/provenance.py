@@ -76,13 +76,14 @@ def date_of_run() -> str:
 
 @dataclass(frozen=True)
 class Source:
-    """A schedule's file, how it was made, and the solver's relative gap where a search made it."""
+    """A schedule's file, how it was made, and where a search made it the solver's relative gap, and its bound in the currency."""
 
     name: str
     sha256: str
     made: str
     gap: Optional[float] = None
     is_near: bool = True
+    bound: Optional[float] = None
 
 
 @dataclass(frozen=True)

@@ -13,9 +13,10 @@ Flags = tuple[int, ...]
 
 
 def draw_unit(draw: random.Random) -> dict[str, Any]:
-    """A unit whose starts cost less after a longer time off, or now and then more."""
+    """A unit whose starts cost less after a longer time off, or now and then more. Each other one is a block: all of its power, or none."""
     least, on0 = draw.randint(0, 4), draw.randint(0, 1)
-    most, slope, idle = least + draw.randint(1, 6), draw.randint(1, 30), draw.randint(0, 60)
+    most = max(1, least + draw.choice([0, draw.randint(1, 6)]))
+    slope, idle = draw.randint(1, 30), draw.randint(0, 60)
     lags = sorted(draw.choices(range(7), k=draw.randint(1, 3)))
     costs = sorted((draw.choice([0, 5, 50, 400, 3000]) for _ in lags), reverse=draw.random() < 0.8)
     return {
@@ -30,7 +31,7 @@ def draw_unit(draw: random.Random) -> dict[str, Any]:
         "time_up_t0": draw.randint(1, 3) * on0,
         "time_down_t0": draw.randint(0, 4) * (1 - on0),
         "startup": [{"lag": lag, "cost": cost} for lag, cost in zip(lags, costs)],
-        "piecewise_production": [{"mw": at, "cost": idle + slope * at} for at in (least, most)],
+        "piecewise_production": [{"mw": at, "cost": idle + slope * at} for at in sorted({least, most})],
     }
 
 
@@ -79,10 +80,11 @@ def dispatch_cost(case: dict[str, Any], period: int, on: Flags) -> float:
     )
     for unit, flag in zip(case["thermal_generators"].values(), on):
         if flag:
-            low, high = unit["piecewise_production"]
+            low, *above = unit["piecewise_production"]
             demand, cost = demand - low["mw"], cost + low["cost"]
-            width = high["mw"] - low["mw"]
-            blocks.append(((high["cost"] - low["cost"]) // width, width))
+            for high in above:
+                width = high["mw"] - low["mw"]
+                blocks.append(((high["cost"] - low["cost"]) // width, width))
     if not 0 <= demand <= sum(width for _, width in blocks):
         return float("inf")
     for slope, width in sorted(blocks):

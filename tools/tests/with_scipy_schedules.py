@@ -4,14 +4,21 @@ import os
 import random
 import tempfile
 import unittest
+from dataclasses import replace
+from types import SimpleNamespace
+from unittest import mock
 
+import numpy
 import plain_commitment
 from tool import EXAMPLES, PROGRAM, run
 
+from hulltools import linear
+from hulltools.commands.study import Schedules, with_dearer_told
 from hulltools.errors import HullError
 from hulltools.json_texts import parse
 from hulltools.cases import case_of, read_case
 from hulltools.program import Hull, as_file
+from hulltools.provenance import Source
 from hulltools.schedules import Schedule
 from hulltools.numbers import Millionths
 from hulltools.scheduling import Made, make_schedule, search
@@ -19,6 +26,18 @@ from hulltools.search_limits import SearchLimits
 
 LIMITS = SearchLimits(0.0, 100_000, 60.0)
 CASES = int(os.environ.get("HULL_SCHEDULE_CASES", "100"))
+
+
+def unit(points: list, ramp: int, limits: tuple, least_time: int, power: int, starts: list) -> dict:
+    """A unit, which before period 1 was on for an hour at this power, or off for four."""
+    return {
+        **{"must_run": 0, "power_output_minimum": points[0][0], "power_output_maximum": points[-1][0]},
+        **{"ramp_up_limit": ramp, "ramp_down_limit": ramp, "ramp_startup_limit": limits[0]},
+        **{"ramp_shutdown_limit": limits[1], "time_up_minimum": least_time, "time_down_minimum": least_time},
+        **{"power_output_t0": power, "unit_on_t0": int(power > 0), "time_up_t0": int(power > 0)},
+        **{"time_down_t0": 0 if power else 4, "startup": [{"lag": lag, "cost": cost} for lag, cost in starts]},
+        "piecewise_production": [{"mw": mw, "cost": cost} for mw, cost in points],
+    }
 
 
 class StartCosts(unittest.TestCase):
@@ -106,6 +125,55 @@ class StartCosts(unittest.TestCase):
         self.assertEqual((made.cost, str(made.cost_in_currency)), (101_500_000, "101.5"))
         due = "<Made: schedule=<Schedule: periods=0, units=0>, cost=101500000, gap=0.00990099, is_near=False, nodes=0>"
         self.assertEqual(repr(made), due)
+
+    def least(self, demand: list, reserves: list, units: dict) -> tuple:
+        """What the search says is the least cost, and its bound."""
+        case = {"time_periods": len(demand), "demand": demand, "reserves": reserves, "thermal_generators": units}
+        self.write({**case, "renewable_generators": {}})
+        made = search(read_case(self.case), LIMITS)
+        return made.solver_cost, made.solver_bound
+
+    def test_the_best_schedule_is_not_missed(self) -> None:
+        """HiGHS 1.2 (SciPy 1.10) says 11,200.00 of this by its first simplifications: G1 alone costs 9,200.00."""
+        g0 = unit([(100, 5050)], 100, (100, 100), 1, 0, [(1, 1000)])
+        g1 = {**unit([(200, 2600), (300, 5150), (500, 13250)], 100, (500, 300), 1, 400, []), "ramp_up_limit": 0}
+        self.assertEqual(self.least([400], [0], {"G0": g0, "G1": g1}), (9200, 9200))
+
+    def test_a_solution_keeps_the_rows(self) -> None:
+        """HiGHS 1.2 says by its first simplifications that another one costs less, which breaks a row by 50 MW."""
+        starts, block = [(1, 500), (4, 2500)], [(150, 5500)]
+        units = {
+            "G0": {**unit([(50, 2000), (200, 5750)], 200, (50, 50), 1, 200, [(1, 2500)]), "time_up_t0": 5},
+            "G1": unit(block, 150, (150, 150), 4, 150, starts),
+            "G2": unit(block, 150, (150, 150), 2, 150, starts),
+        }
+        cost, bound = self.least([400, 450, 500, 250], [0, 50, 0, 0], units)
+        self.assertAlmostEqual(cost, 55250)
+        self.assertAlmostEqual(bound, 55250)
+
+    def test_a_solution_that_is_none_is_refused(self) -> None:
+        program = linear.Program()
+        program.at_most([(program.variable(0, 100, -1.0, True), 1), (program.variable(0, 100), 1)], 100)
+        for x, is_kept in (([100.0, 0.0], True), ([100.0005, 0.0], True), ([50, 51], False), ([-1, 0], False)):
+            answer = SimpleNamespace(status=0, x=numpy.array(x), message="")
+            with mock.patch.object(linear, "milp", return_value=answer) as solver:
+                if is_kept:
+                    self.assertIs(program.solve(), answer)
+                else:
+                    self.assertRaisesRegex(HullError, "answer isn't a solution of its program", program.solve)
+            self.assertIs(solver.call_args.kwargs["options"]["presolve"], False)
+
+    def test_a_bound_that_a_schedule_refutes_is_told(self) -> None:
+        """What another solver says is the least cost isn't, where the schedule that is given costs less."""
+        given, made = Source("given.json", "", "given"), Source("made.json", "", "made", 0.0, True, 112.0)
+        cost, dearer = Millionths(92_000_000), Millionths(112_000_000)
+        found = with_dearer_told(Schedules(given, cost, made, dearer))
+        due = "made; it costs 20.00 more than the schedule, which is the best one known"
+        self.assertEqual(found.best, replace(made, made=f"{due}, so the solver's bound is wrong", is_near=False))
+        self.assertEqual(found.best_cost, cost)
+        for bound in (None, 92.0, 92.00005):
+            best = replace(made, bound=bound)
+            self.assertEqual(with_dearer_told(Schedules(given, cost, best, dearer)).best, replace(best, made=due))
 
     def test_a_solver_without_a_bound_is_told(self) -> None:
         made = Made(Schedule({}), 101.0, -float("inf"), 200, 0.0005)

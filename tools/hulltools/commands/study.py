@@ -58,10 +58,10 @@ from typing import TYPE_CHECKING, Optional, Type
 from ..cases import Case, read_case
 from ..clock import Clock
 from ..errors import HullError, Tell, is_utf8, one_line, run_tool, write_together
-from ..linear import need_scipy
+from ..linear import is_below, need_scipy
 from ..held_files import HeldFiles
 from ..lint import first_look
-from ..numbers import Millionths, money
+from ..numbers import Millionths, in_currency, money
 from ..prices import read_prices
 from ..progress import step
 from ..program import Hull
@@ -173,7 +173,7 @@ def made_source(given: argparse.Namespace, name: str, tell: Tell) -> tuple[Sourc
 
 def made_by_search(name: str, found: Made, reached: str) -> Source:
     how = f"made by make_schedule.py, {reached}"
-    return Source(name, sha256_of(name), how, found.gap, found.is_near is not False)
+    return Source(name, sha256_of(name), how, found.gap, found.is_near is not False, found.lowest)
 
 
 def given_source(hull: Hull, case: str, name: str) -> tuple[Source, Millionths]:
@@ -199,7 +199,10 @@ def schedules_of(given: argparse.Namespace, hull: Hull, room: str, tell: Tell) -
             tell(found.missing)
     elif not given.schedule:
         found.best_cost = found.cost
-    return with_dearer_told(found)
+    looked_at = with_dearer_told(found)
+    if looked_at.best and looked_at.best is not found.best:
+        tell(f"the other schedule: {looked_at.best.made}")
+    return looked_at
 
 
 def with_dearer_told(found: Schedules) -> Schedules:
@@ -208,7 +211,11 @@ def with_dearer_told(found: Schedules) -> Schedules:
     if found.best is None or more <= 0:
         return found
     told = f"it costs {money(more)} more than the schedule, which is the best one known"
-    return replace(found, best=replace(found.best, made=f"{found.best.made}; {told}"), best_cost=found.cost)
+    is_near = found.best.is_near
+    if found.best.bound is not None and is_below(float(in_currency(found.cost)), found.best.bound):
+        is_near, told = False, f"{told}, so the solver's bound is wrong"
+    made = f"{found.best.made}; {told}"
+    return replace(found, best=replace(found.best, made=made, is_near=is_near), best_cost=found.cost)
 
 
 def study_of(
