@@ -6,14 +6,25 @@ import os
 import tempfile
 from argparse import Namespace
 from dataclasses import replace
+from pathlib import Path
 from types import TracebackType
 from typing import Any, Dict, Optional, Type, TypeVar
 
-from .errors import MOST_BYTES, HullError, one_line, read_bytes, told_with
+from .errors import MOST_BYTES, HullError, Name, one_line, read_bytes, told_with
 from .inputs import is_name
 from .provenance import Source
 
 Given = TypeVar("Given")
+
+
+def is_copied(name: Name) -> bool:
+    """Whether that is a pipe, or a file that the program doesn't refuse for its size."""
+    return is_pipe(name) or (os.path.isfile(name) and os.path.getsize(name) <= MOST_BYTES)
+
+
+def is_pipe(name: Name) -> bool:
+    """Whether what is there can be read once alone."""
+    return Path(name).is_fifo()
 
 
 class HeldFiles:
@@ -36,8 +47,8 @@ class HeldFiles:
                 self.folder.cleanup()
 
     def of(self, given: Given) -> Given:
-        """The copy of a file. What is no file's name stays as it is, and so do a pipe, which is read once, and what the program refuses for its size."""
-        if not is_name(given) or not os.path.isfile(given) or os.path.getsize(given) > MOST_BYTES:
+        """The copy of a file, or of what a pipe brings. All else stays as it is, as what isn't there, or what the program refuses for its size."""
+        if not is_name(given) or not is_copied(given):
             return given
         name = os.fspath(given)
         if name not in self.copies:

@@ -517,6 +517,16 @@ class Studies(Room):
             self.assertEqual(said.splitlines()[-1], f"{tool}: {due}")
             self.assertEqual((ran.returncode, os.path.exists(f"{self.room}/prices.json")), (1, False))
 
+    def test_pipes_are_read_once(self) -> None:
+        pipes = f"<(cat {DEAR}/case.json) <(cat {DEAR}/schedule.json)"
+        study = f"{pipes.replace(' <', ' st --schedule <', 1)} --no-schedule --skip elmp,relaxation,convex_hull"
+        for tool, words in (("lmp.py", f"{pipes} prices.json"), ("study.py", study)):
+            line = f"{self.python} -B {ROOT}/tools/{tool} {words} --hull {PROGRAM}"
+            ran = subprocess.run(["bash", "-c", line], cwd=self.room, capture_output=True, text=True, check=False)
+            self.assertEqual(ran.returncode, 0, ran.stderr)
+        self.assertIn("LMP: gap 1,200.00", ran.stderr)
+        self.assertEqual(read(f"{self.room}/prices.json"), read(f"{self.room}/st/lmp.prices.json"))
+
     def test_a_list_that_takes_too_long_is_left_out(self) -> None:
         said = self.run_study("--seconds", "20", hull=self.program("convex"), status=3)
         due = "Convex hull (certified) is left out: the outer limit of 20 s is over: hull convex."

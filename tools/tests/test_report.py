@@ -7,8 +7,10 @@ import re
 import shutil
 import sys
 import tempfile
+import threading
 import time
 import unittest
+from pathlib import Path
 from unittest import mock
 
 from tool import EXAMPLES, PROGRAM, python_with, run
@@ -226,6 +228,26 @@ class Report(unittest.TestCase):
         self.assertEqual(over, "report.py: the outer limit of 0.2 s is over: hull certify\n")
         words = ("page", self.write(SETTLED), f"{self.room}/page.html", "--mixture", f"{self.room}/certificate")
         self.assertIn("--mixture goes with --case and --schedule", run("report.py", *words)[2])
+
+    def test_a_page_with_a_mixture_is_of_the_files_that_were_read_first(self):
+        """The program certifies with copies of them; what a pipe brings is copied too."""
+        given = {f"{self.room}/{what}": f"{EXAMPLES}/usual/{what}.json" for what in ("case", "schedule")}
+        given[f"{self.room}/mixture"] = f"{EXAMPLES}/certified/mixture.json"
+        hull = Path(self.room, "changing.sh")
+        change = "".join(f"[ -p {name} ] || echo >{name}; " for name in given)
+        hull.write_text(f'#!/bin/sh\n[ "$1" != certify ] || {{ {change}}}\nexec {PROGRAM} "$@"\n', encoding="utf-8")
+        hull.chmod(0o755)
+        words = [*(word for name in given for word in (f"--{os.path.basename(name)}", name)), "--hull", str(hull)]
+        for name, source in given.items():
+            shutil.copyfile(source, name)
+        said, page = self.certified(CERTIFIED, *words)
+        self.assertEqual((said, page.count("of these need less than 127.00 of payments and surplus")), ("", 1))
+        for name, source in given.items():
+            os.unlink(name)
+            os.mkfifo(name)
+            data = Path(source).read_bytes()
+            threading.Thread(target=Path(name).write_bytes, args=(data,), daemon=True).start()
+        self.assertEqual(self.certified(CERTIFIED, *words), (said, page))
 
     def test_no_page_shows_another_schedule_beside_a_text(self):
         schedule = f"{self.room}/schedule.json"

@@ -37,6 +37,7 @@ from typing import Optional, Union
 from ..beside import need_beside
 from ..cases import Case, read_case
 from ..costs import Costs
+from ..held_files import HeldFiles
 from ..outputs import (
     AnyPriced,
     Certificate,
@@ -134,6 +135,16 @@ def certificate_of(given: argparse.Namespace, priced: AnyPriced, tell: Tell) -> 
     return made
 
 
+def write_page(given: argparse.Namespace, priced: AnyPriced, inputs: Sequence[str], tell: Tell) -> None:
+    with HeldFiles() as held:  # (the program reads them again)
+        files = held.words_of(given)
+        files.mixture = held.of(given.mixture)
+        case, schedule = case_and_schedule(files, [priced])
+        need_beside(priced, case, schedule, Costs())
+        certificate = certificate_of(files, priced, tell)
+    write_whole(given.to, page_of(priced, schedule, certificate, bool(given.mixture)), inputs)
+
+
 def body(words: Sequence[str], tell: Tell) -> None:
     given = arguments(words)
     inputs = [*given.texts, *filter(None, (given.case, given.schedule, given.certificate, given.mixture))]
@@ -152,10 +163,7 @@ def body(words: Sequence[str], tell: Tell) -> None:
     elif given.verb == "prices":
         priced.prices.write(given.to, inputs)
     else:
-        case, schedule = case_and_schedule(given, [priced])
-        need_beside(priced, case, schedule, Costs())
-        certificate = certificate_of(given, priced, tell)
-        write_whole(given.to, page_of(priced, schedule, certificate, bool(given.mixture)), inputs)
+        write_page(given, priced, inputs, tell)
 
 
 def main(words: Optional[Sequence[str]] = None) -> int:

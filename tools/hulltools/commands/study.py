@@ -59,7 +59,7 @@ from ..cases import Case, read_case
 from ..clock import Clock
 from ..errors import HullError, Tell, is_utf8, one_line, run_tool, write_together
 from ..linear import is_below, need_scipy
-from ..held_files import HeldFiles
+from ..held_files import HeldFiles, is_pipe
 from ..lint import first_look
 from ..numbers import Millionths, in_currency, money
 from ..prices import read_prices
@@ -329,8 +329,8 @@ def body(words: Sequence[str], tell: Tell) -> int:
     names = {"case": given.case, "schedule": given.schedule}
     with StudyFolder(given.folder, inputs_of(given)) as folder:
         with step("looking at the files"):
-            there = {what: name for what, name in names.items() if name}
-            warnings = first_look(there, tell, float(given.hours_per_period or 1))
+            there = {what: name for what, name in names.items() if name and not is_pipe(name)}
+            warnings = first_look(there, tell, float(given.hours_per_period or 1)) if "case" in there else []
         study = study_in(folder, given, words, hull, tell, warnings)
     tell(study.sentence("at"))
     if study.interrupted:
