@@ -88,6 +88,14 @@ class Program:
     def at_most(self, terms: Iterable[Term], high: float) -> int:
         return self.row(terms, -INFINITY, high)
 
+    def slack(self, row: int, factor: float) -> int:
+        """A variable of cost 1 more in that row; its number."""
+        column = self.variable(0, INFINITY, 1.0)
+        self.rows.append(row)
+        self.columns.append(column)
+        self.factors.append(factor)
+        return column
+
     def table(self) -> Any:
         shape = len(self.from_), len(self.low)
         return coo_matrix((self.factors, (self.rows, self.columns)), shape=shape).tocsr()

@@ -8,6 +8,7 @@ from math import floor, inf, isfinite
 from typing import Any, Callable, Dict, List, Optional, Sequence, Tuple, cast
 
 from .apart import run_apart
+from .barring import bar
 from .cases import POWER, Case, Thermal
 from .commitment import Commitment, Flags
 from .costs import most_below_lines
@@ -24,6 +25,7 @@ from .schedules import Plan, Schedule, flat_plan, kilowatt_list
 from .search_limits import SECONDS, SearchLimits
 from .errors import CannotBeMet, HullError, OverTime, one_line
 
+CHOICES = 100  # how many choices of units are asked for, where none can be met exactly
 SECONDS_A_RULE = 20.0  # how long the solver looks for a schedule without a rule
 
 
@@ -205,13 +207,16 @@ def schedule_of(case: Case, flags: Flags, lists: Lists, reserves: List[List[int]
     return Schedule(plans)
 
 
-def dispatch(case: Case, model: Commitment, flags: Flags) -> Schedule:
-    """The powers of least cost with the flags held, in whole kilowatts."""
+def dispatch(case: Case, flags: Flags) -> Optional[Schedule]:
+    """The powers of least cost with the flags held, in whole kilowatts; None where the flags can't be met."""
     turn_to("the dispatch of the schedule that is found")
+    model = Commitment(case)
     model.fix(flags)
     solved = model.program.solve_linear()
+    if solved is None and model.program.is_infeasible:
+        return None
     if solved is None:
-        raise HullError("the solver's choice of units can't be met exactly: try another --gap")
+        raise HullError("the solver ended without powers for its choice of units, and doesn't say that there are none")
     lists = whole_powers(case, flags, powers_found(model, solved.x), solved.value)
     if lists is None:
         raise HullError("no whole kilowatts near the solver's powers balance: try another --gap")
@@ -249,13 +254,24 @@ def make_schedule(case: Case, limits: SearchLimits) -> Made:
 def search(case: Case, limits: SearchLimits) -> Made:
     """The search itself, which is over at the limit where the solver looks at the clock."""
     until = inf if limits.seconds is None else time.monotonic() + limits.seconds
-    model = Commitment(case)
-    found = searched(model, limits, until)
-    # (with no whole variable there is no bound beside the optimum)
+    model, nodes = Commitment(case), 0
+    for _ in range(CHOICES):
+        found = searched(model, replace(limits, nodes=max(1, limits.nodes - nodes)), until)
+        nodes += int(found.mip_node_count or 0)
+        flags = model.flags(found.x)
+        schedule = dispatch(case, flags)
+        if schedule is not None:
+            return made_of(case, schedule, found, nodes, limits.gap)
+        turn_to("the solver's choice of units can't be met exactly: looking for another")
+        bar(model, flags)
+    raise HullError(f"none of {CHOICES} choices of units that the solver made can be met exactly: try another --gap")
+
+
+def made_of(case: Case, schedule: Schedule, found: Any, nodes: int, wanted_gap: float) -> Made:
+    """What the search found, with the solver's bound. With no whole variable it has none beside the optimum."""
     bound = found.fun if found.mip_dual_bound is None else found.mip_dual_bound
-    schedule = dispatch(case, model, model.flags(found.x))
     below_lines = sum(most_below_lines(it.points) for it in case.thermal) * case.periods / 1e6
-    return Made(schedule, float(found.fun), float(bound), int(found.mip_node_count or 0), limits.gap, below_lines)
+    return Made(schedule, float(found.fun), float(bound), nodes, wanted_gap, below_lines)
 
 
 def wanted_powers(case: Case, followed: Followed) -> Powers:

@@ -40,7 +40,6 @@ class Rounding(unittest.TestCase):
     def test_the_last_step_costs_no_more_than_any_neighbour(self):
         """On examples/evening with its commitments held: every balanced pair of moves by a kilowatt costs at least as much."""
         from hulltools.cases import read_case
-        from hulltools.commitment import Commitment
         from hulltools.costs import Costs, worth
         from hulltools.schedules import read_schedule
         from hulltools.scheduling import dispatch
@@ -48,7 +47,7 @@ class Rounding(unittest.TestCase):
         case = read_case(files("evening")[0])
         given = read_schedule(files("evening")[1], case)
         flags = [given.plan("thermal", it.name).on for it in case.thermal]
-        made, costs = dispatch(case, Commitment(case), flags), Costs()
+        made, costs = dispatch(case, flags), Costs()
 
         def cost_of(schedule):
             bought = [(bid.blocks, schedule.plan("bid", bid.name).power) for bid in case.bids]

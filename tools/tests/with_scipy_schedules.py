@@ -151,6 +151,20 @@ class StartCosts(unittest.TestCase):
         self.assertAlmostEqual(cost, 55250)
         self.assertAlmostEqual(bound, 55250)
 
+    def test_a_choice_that_cannot_be_met_exactly_is_not_the_last(self) -> None:
+        """HiGHS takes a flag of 0.0000009 for 0, and with that a unit of 1,200 MW gives the kilowatt that is short."""
+        units = {
+            "A": unit([(300, 6000), (1000, 20000)], 1000, (1000, 1000), 1, 900, []),
+            "B": unit([(100, 2500), (500, 12500)], 500, (500, 500), 1, 400, []),
+            "PEAK": unit([(0, 200), (100, 8200)], 100, (100, 100), 1, 0, [(1, 1000)]),
+            "D": unit([(600, 15000), (1200, 28200)], 1200, (1200, 1200), 1, 0, [(1, 20000)]),
+        }
+        self.assertEqual(self.least([1500], [0], units)[0], 32500)
+        for megawatts, cost in ((1500.001, 33700.08), (1500.002, 33700.16)):
+            found, bound = self.least([megawatts], [0], units)
+            self.assertAlmostEqual(found, cost, delta=0.2)
+            self.assertLessEqual(bound, cost + 0.001)
+
     def test_a_solution_that_is_none_is_refused(self) -> None:
         program = linear.Program()
         program.at_most([(program.variable(0, 100, -1.0, True), 1), (program.variable(0, 100), 1)], 100)
