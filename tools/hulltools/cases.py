@@ -63,6 +63,11 @@ class Thermal(FieldsAlone):
         """Power above the least one in period 0."""
         return Kilowatts(self.power0 - self.least if self.on0 else 0)
 
+    @property
+    def is_too_high_to_stop(self) -> bool:
+        """Whether a stop in period 1 would come down from above the stop limit, or by more than the downward ramp."""
+        return bool(self.on0) and (self.power0 > self.stop_cap or self.above0 > self.ramp_down)
+
     def on_bounds(self) -> tuple[list[int], list[int]]:
         """Least and greatest on flag of each period, by the rules that fix it alone; a least above a greatest can't be met."""
         periods = len(self.marks)
@@ -71,8 +76,8 @@ class Thermal(FieldsAlone):
             low[t] = 1
         for t in range(min(periods, 0 if self.on0 else self.min_down - self.down0)):
             high[t] = 0
-        if self.on0 and self.power0 > self.stop_cap:
-            low[0] = 1  # (a stop in period 1 would come down from too high)
+        if self.is_too_high_to_stop:
+            low[0] = 1
         for t, mark in enumerate(self.marks):
             if mark is not None:
                 low[t], high[t] = max(low[t], mark), min(high[t], mark)

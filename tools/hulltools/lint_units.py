@@ -147,8 +147,9 @@ def clash(unit: Thermal) -> Optional[Tuple[int, str, str]]:
     on, key = ("it is must-run", "must_run") if unit.must_run else ("", "")
     if unit.on0 and t < unit.min_up - unit.up0:
         on, key = "its minimum time up isn't over", "time_up_t0"
-    elif unit.on0 and t == 0 and unit.power0 > unit.stop_cap:
-        on, key = on or "its initial output is above its stop limit, so it can't stop in period 1", "power_output_t0"
+    elif t == 0 and unit.is_too_high_to_stop:
+        limit = "stop limit" if unit.power0 > unit.stop_cap else "least power by more than its downward ramp"
+        on, key = on or f"its initial output is above its {limit}, so it can't stop in period 1", "power_output_t0"
     off = "its window says off" if unit.marks[t] == 0 else "its minimum time down isn't over"
     return t + 1, f"{on or 'its window says on'}, and {off}", key or "commitment"
 

@@ -69,7 +69,7 @@ def forced_loss(owed: Owed) -> Millionths:
 
 def is_held_on(unit: Thermal) -> bool:
     """Whether the state before period 1 leaves a unit no choice but to be on in period 1."""
-    return bool(unit.on0) and (unit.min_up > unit.up0 or unit.power0 > unit.stop_cap)
+    return bool(unit.on0) and unit.min_up > unit.up0 or unit.is_too_high_to_stop
 
 
 def reason_of_loss(unit: Unit) -> str:

@@ -273,6 +273,11 @@ MISTAKES: Dict[str, Tuple[Change, str, Optional[str]]] = {
         "in period 2 it can be neither on nor off: it is must-run, and its window says off.",
         "its window says off",
     ),
+    "a ramp that leaves no stop": (
+        unit_change("COAL1", ramp_down_limit=1, ramp_shutdown_limit=600, commitment=[0] + [None] * 23),
+        "in period 1 it can be neither on nor off: its initial output is above its least power by more than its downward ramp, so it can't stop in period 1, and its window says off.",
+        "its window says off",
+    ),
     "reserve as a share": (
         lambda files: files["case"].update(reserves=[0.05] * 24),
         "The highest required reserve is 0.05 MW, at a demand of up to 880 MW: are these shares of demand?",

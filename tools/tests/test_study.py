@@ -256,6 +256,9 @@ class ForcedLosses(unittest.TestCase):
             self.assertEqual(reason_of_loss(unit), due)
         unit.up0, unit.marks, unit.power0, unit.stop_limit = 9, [1], unit.most, unit.most - 1
         self.assertEqual(reason_of_loss(unit), f"commitment and {state}")
+        for above, due in ((1, f"commitment and {state}"), (0, "commitment")):
+            unit.most, unit.stop_limit, unit.ramp_down, unit.power0 = 90_000, 90_000, 50, unit.least + 50 + above
+            self.assertEqual(reason_of_loss(unit), due)
 
 
 class UnitLists(unittest.TestCase):
