@@ -400,7 +400,9 @@ class Contents(Workflow):
         told = "Not every list has all of these days, so don't compare their sums."
         for name in ("one", "two"):
             self.ends_well(lists=["convex_hull"], only=[name])
-            self.assertNotIn(told, read(self.result("page.html")).decode())
+            page = read(self.result("page.html")).decode()
+            self.assertNotIn(told, page)
+            self.assertEqual(page.count('<circle class="least"'), 1)  # (a day alone is no line)
         write(f"{self.study}/days/two/report.txt", "x\n")
         self.run_all("--retries", "0", lists=["convex_hull"])
         self.assertIn(told, read(self.result("page.html")).decode())

@@ -23,11 +23,13 @@ def draw_prices(axes: Any, priced: AnyPriced) -> None:
         rows = [("first proposal", priced.proposals[0]), (f"chosen (proposal {priced.chosen})", priced.best)]
     for place, (name, row) in enumerate(rows):
         is_last = place == len(rows) - 1
-        how = dict(linestyle="-" if is_last else "--", drawstyle="steps-mid", alpha=1 if is_last else 0.5)
+        how = dict(linestyle="-" if is_last else "--", baseline=None, alpha=1 if is_last else 0.5)
         for key, colour in (("energy", "tab:blue"), ("reserve", "tab:orange")):
             numbers = [it / 1e3 for it in getattr(row, key)]
             if key == "energy" or any(numbers):
-                axes.plot(range(1, priced.periods + 1), numbers, color=colour, label=f"{key}, {name}", **how)
+                edges = [t + 0.5 for t in range(priced.periods + 1)]
+                axes.stairs(numbers, edges, color=colour, label=f"{key}, {name}", **how)
+    axes.xaxis.get_major_locator().set_params(integer=True)
     axes.set(title="Prices by period", xlabel="period", ylabel="currency per MW and period")
     axes.legend(fontsize="small")
 

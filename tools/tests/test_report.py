@@ -390,6 +390,13 @@ class Report(unittest.TestCase):
             with open(f"{self.room}/picture.png", "rb") as file:
                 self.assertTrue(file.read().startswith(b"\x89PNG"))
         self.assertEqual(self.report("plot", self.write(ODD), "picture.svg", python=python)[0], 0)
+        # (prices of one period are a line as wide as the period)
+        self.assertEqual(self.report("plot", self.write(SETTLED), "one.svg", python=python)[0], 0)
+        lines = re.findall(
+            r'<path d="M ([0-9.]+) ([0-9.]+) \n(?:L [0-9. ]+\n)*L ([0-9.]+) \2 \n" [^>]*stroke: #1f77b4',
+            self.read("one.svg"),
+        )
+        self.assertGreater(max(float(end) - float(begin) for begin, _, end in lines), 300)
         odd_letters = self.write(SETTLED.replace("W1", "\uff1d\U0001f600\u0378"))
         self.assertEqual(self.report("plot", odd_letters, "picture.png", python=python), (0, "", ""))
         for name in ("picture.odd", "picture.pgf"):

@@ -49,7 +49,7 @@ def runs_of(numbers: List[Optional[float]]) -> List[List[int]]:
 def draw(chart: Chart, numbers: List[Optional[float]], style: str, dots: bool) -> None:
     for run in runs_of(numbers):
         chart.polyline([(place + 1, numbers[place]) for place in run], style)
-        for place in run if dots else []:
+        for place in run if dots or len(run) == 1 else []:
             chart.dot(place + 1, numbers[place], style)
 
 
