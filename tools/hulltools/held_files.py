@@ -8,13 +8,16 @@ from argparse import Namespace
 from dataclasses import replace
 from pathlib import Path
 from types import TracebackType
-from typing import Any, Dict, Optional, Type, TypeVar
+from typing import TYPE_CHECKING, Any, Dict, Optional, Type, TypeVar
 
 from .errors import MOST_BYTES, HullError, Name, one_line, read_bytes, told_with
 from .inputs import is_name
-from .provenance import Source
+
+if TYPE_CHECKING:
+    from .provenance import Source
 
 Given = TypeVar("Given")
+OPEN_HERE = ("/dev/fd/", "/proc/self/fd/")
 
 
 def is_copied(name: Name) -> bool:
@@ -25,6 +28,11 @@ def is_copied(name: Name) -> bool:
 def is_pipe(name: Name) -> bool:
     """Whether what is there can be read once alone."""
     return Path(name).is_fifo()
+
+
+def is_read_here(name: Name) -> bool:
+    """Whether the program can't read it for the tool: a pipe, which is read once, or what the tool alone has open."""
+    return is_pipe(name) or os.fspath(name) == "/dev/stdin" or os.fspath(name).startswith(OPEN_HERE)
 
 
 class HeldFiles:

@@ -16,6 +16,7 @@ from typing import Optional, Type, cast
 
 from .apart import die_with_parent
 from .errors import HullError, Name, OverTime, Tell, begun, is_tool_at_work, is_utf8, one_line, shown_name, told_with
+from .held_files import HeldFiles, is_read_here
 from .inputs import (
     Given,
     GivenCase,
@@ -165,7 +166,8 @@ class Hull:
         """What a command prints of these files; each is held by a file for as long as it is needed."""
         unread: Optional[HullError] = None
         with contextlib.ExitStack() as files:
-            words = [command]
+            words, held = [command], files.enter_context(HeldFiles())
+            given = {what: held.of(one) if is_name(one) and is_read_here(one) else one for what, one in given.items()}
             for what, one in given.items():
                 if isinstance(one, FlatPrices):
                     one, unread = flat_over(one, cast(GivenCase, given["case"]))
@@ -175,8 +177,8 @@ class Hull:
                     need_periods(what, one, given["case"])
                 words += [f"--{what}", files.enter_context(as_file(one, what))]
             output = self.text(*words, *more)
-        if unread:
-            raise unread
+            if unread:
+                raise unread
         return output
 
     def check(self, case: GivenCase, schedule: GivenSchedule) -> Millionths:

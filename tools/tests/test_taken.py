@@ -12,7 +12,7 @@ from fractions import Fraction
 from tool import EXAMPLES, PROGRAM, ROOT, python_with
 
 import hulltools
-from hulltools.json_texts import json_text
+from hulltools.json_texts import json_text, read_json
 from hulltools.named_texts import texts_of
 from hulltools.price_lists import PriceList
 from hulltools.refusals import Held
@@ -87,6 +87,22 @@ class Texts(unittest.TestCase):
             with subprocess.Popen(["sh", "-c", f"exec {' '.join(words)} >{room}/prices"]) as writer:
                 found = settled(f"{room}/prices")
                 self.assertEqual((found.units, writer.wait()), (settled(words[1]).units, 0))
+
+    def test_what_the_program_cannot_open_is_read_for_it(self):
+        """A pipe, or what this process alone has open, as `<(cat prices.json)` or a file as standard input."""
+        prices = read_json(f"{EXAMPLES}/certified/prices.json", "prices")
+        with tempfile.TemporaryFile() as file:
+            for reserve in ("reserve", "reserves"):
+                file.seek(0)
+                file.truncate()
+                file.write(json_text({"energy": prices["energy"], reserve: [0] * len(prices["energy"])}).encode())
+                file.seek(0)
+                name = f"/dev/fd/{file.fileno()}"
+                if reserve == "reserve":
+                    self.assertEqual(settled(name).prices.in_currency_per_mw()["energy"], prices["energy"])
+                else:
+                    with self.assertRaisesRegex(hulltools.HullError, f"^{name}: `reserves` is no key of it"):
+                        settled(name)
 
     def test_an_object_with_a_schedule_is_taken_for_it(self):
         class Found:
