@@ -157,10 +157,22 @@ def need_finite(what: str, given: dict[str, Any]) -> None:
             raise HullError(f"{name} is {told_value(number)}: a number is due", unit=unit, period=period)
 
 
+def need_same_times(what: str, given: dict[str, Any]) -> None:
+    """Refuses energy and reserve prices that are series of different times."""
+    pattern = ("zones", "*") if what == "zones" else ()
+    for path, prices in values_at(given, pattern) if what in ("prices", "zones") else ():
+        if isinstance(prices, Mapping):
+            where = f" of zone {one_line(path[-1])}" if path else ""
+            refuse_other_times(
+                f"the energy prices{where}", prices.get("energy"), "the reserve prices", prices.get("reserve")
+            )
+
+
 def text_given(what: str, given: dict[str, Any]) -> str:
     """The text of a file that holds a dict."""
     with refused_as(what):
         need_keys(what, given)
+        need_same_times(what, given)
         try:
             need_finite(what, given)
             return json_text(given)
@@ -245,7 +257,6 @@ def as_schedule(given: GivenSchedule, case: Case) -> Schedule:
 def as_prices(given: GivenPrices, case: Case) -> Prices:
     """The prices, for a case; of a file that is a text of `hull price`, `settle` or `convex`, those of the text."""
     if isinstance(given, dict):
-        refuse_other_times("the energy prices", given.get("energy"), "the reserve prices", given.get("reserve"))
         return prices_of(told("prices"), value_of("prices", given), case.periods)
     if isinstance(given, FlatPrices):
         return given.over(case.periods)

@@ -7,7 +7,7 @@ import operator
 import re
 from collections.abc import Iterable, Mapping, Sequence, Set
 from dataclasses import fields
-from datetime import date, datetime, time, timedelta
+from datetime import date, datetime, time, timedelta, timezone
 from typing import TYPE_CHECKING, Any, Optional, TypeVar, cast
 
 from .errors import HullError, one_line
@@ -158,12 +158,28 @@ def refuse_backward(name: str, given: Any) -> None:
 def refuse_other_times(name: str, given: Any, beside: str, other: Any) -> None:
     """Refuses two series of pandas of one length and different times, as of two days: their numbers would be paired by their places."""
     times, others = times_in(given), times_in(other)
-    if len(times) != len(others) or not times or kind_of_time(times[0]) != kind_of_time(others[0]):
+    if len(times) != len(others) or not times or kind_of_time(times[0])[0] != kind_of_time(others[0])[0]:
         return
-    odd = next(((t, *pair) for t, pair in enumerate(zip(times, others), 1) if pair[0] != pair[1]), None)
-    if odd:
-        told = f"{told_value(odd[1])} and {told_value(odd[2])}"
-        raise HullError(f"{name} and {beside} are of different times: period {odd[0]} is {told}", period=odd[0])
+    odd = [next((t for t, pair in enumerate(pairs) if pair[0] != pair[1]), None) for pairs in clocks_of(times, others)]
+    t = odd[0]
+    if t is not None and None not in odd:
+        told = f"{told_value(times[t])} and {told_value(others[t])}"
+        raise HullError(f"{name} and {beside} are of different times: period {t + 1} is {told}", period=t + 1)
+
+
+def clocks_of(times: list[Any], others: list[Any]) -> list[list[tuple[Any, Any]]]:
+    """The pairs of times that can be compared; where the one have no zone, by the clock of the others' zone, and by UTC."""
+    if kind_of_time(times[0]) == kind_of_time(others[0]):
+        return [list(zip(times, others))]
+    both = list(zip(times, others))
+    local = [(one.replace(tzinfo=None), other.replace(tzinfo=None)) for one, other in both]
+    return [local, [(without_zone(one), without_zone(other)) for one, other in both]]
+
+
+def without_zone(given: Any) -> Any:
+    """A time by UTC, without its zone; one of a day by its clock."""
+    is_plain = given.tzinfo is None or not isinstance(given, datetime)
+    return given.replace(tzinfo=None) if is_plain else given.astimezone(timezone.utc).replace(tzinfo=None)
 
 
 def items_of(name: str, given: Any) -> list[Any]:

@@ -195,8 +195,10 @@ def prices_near(energy: Iterable[float], reserve: Iterable[float]) -> Prices:
     """The whole prices nearest to some in millionths per kilowatt, as a solver's duals are.
 
     Each has a number for each period. One outside the limits of docs/FORMATS.md becomes the limit: 10,000.00 per MW and period either way,
-    and 0 for reserve. `cut` says then what it was. Raises `HullError` where one is no number, or where the lists differ in length.
+    and 0 for reserve. `cut` says then what it was. Raises `HullError` where one is no number, or where the lists differ in length, or are
+    series of different times.
     """
+    refuse_other_times("the energy prices", energy, "the reserve prices", reserve)
     cut: list[Cut] = []
     energies, reserves = nearest_prices("energy", energy, -PRICE_LIMIT, cut), nearest_prices("reserve", reserve, 0, cut)
     found = Prices(energies, reserves, cut)

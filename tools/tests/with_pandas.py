@@ -262,10 +262,28 @@ class Set(unittest.TestCase):
             lambda: hulltools.per_mwh(energy, reserve),
             lambda: hulltools.inputs.as_prices({"energy": energy, "reserve": reserve}, self.case),
             lambda: hulltools.inputs.as_prices(prices, self.case),
+            lambda: hulltools.settle(self.case, self.schedule, {"energy": energy, "reserve": reserve}, hull=PROGRAM),
+            lambda: hulltools.certify(
+                self.case, self.schedule, {"energy": energy, "reserve": reserve}, {"units": {}}, hull=PROGRAM
+            ),
+            lambda: hulltools.prices_near(energy, reserve),
         ):
             with self.assertRaises(hulltools.HullError) as found:
                 call()
             self.assertTrue(found.exception.sentence.endswith(due), found.exception.sentence)
+        reserve.index = hours.tz_localize("Europe/Berlin")
+        for zone, shift in ((None, 0), ("UTC", 0), ("UTC", 1)):
+            with_no_zone = reserve.index.tz_convert(zone).tz_localize(None) if zone else hours
+            energy.index = with_no_zone + pandas.Timedelta(hours=shift)
+            if not shift:
+                self.assertEqual(len(hulltools.per_mwh(energy, reserve).energy), 6)
+        self.assertRaisesRegex(hulltools.HullError, "are of different times", hulltools.per_mwh, energy, reserve)
+        energy.index, reserve.index = hours, [*hours[:2], *(hours[2:] + pandas.Timedelta(days=1))]
+        zones = {"zones": {"A": {"energy": energy, "reserve": reserve}}, "default": "A"}
+        with self.assertRaisesRegex(
+            hulltools.HullError, f"energy prices of zone A and the reserve prices are .*{times}"
+        ):
+            hulltools.settle_zones(self.case, self.schedule, zones, hull=PROGRAM)
 
     def test_series_whose_order_is_sure_are_taken(self):
         """Whole numbers come of sorted and of joined frames; a clock without an offset goes back once, in autumn."""
